@@ -1,0 +1,13 @@
+pub mod Spelling
+pub mod Induction
+pub mod Rebuilding
+pub mod Balance
+pub mod Stops
+pub mod OneAnswer
+pub mod NestLemmas
+pub mod Faults
+pub mod ReadLemmas
+pub mod Utf8Front
+pub mod Progress
+pub mod Building
+pub mod SomeAnswer

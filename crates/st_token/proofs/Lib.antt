@@ -1,0 +1,6 @@
+mod Rows
+pub mod Names
+pub mod Numbers
+pub mod Places
+pub mod Quotes
+pub mod Words
