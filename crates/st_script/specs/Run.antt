@@ -1,0 +1,17 @@
+-- A transaction that runs over lists.
+use Rattle.std.specs.Prelude.{◌≡◌, ℕ, ◌+◌, ◌<◌, ◌^◌, List, slice_index}
+use Rattle.st_query.specs.declared.term.Variable.{Variable}
+use Rattle.st_state.specs.State.{State}
+use Rattle.st_meaning.specs.Statements.{Present}
+
+-- a state and variables
+abbrev pub present : State → List Variable → Present
+present state variables = record { state = state; variables = variables }
+
+-- these are the state and the variables
+abbrev pub IsPresent : Present → State → List Variable → Type 0
+IsPresent p state variables = (state ≡ p.state) × (variables ≡ p.variables)
+
+-- each type has a serial left
+abbrev pub HasRoom : State → Type 0
+HasRoom state = (ty : ℕ) → slice_index state.last ty + 1 < 2 ^ 32

@@ -1,0 +1,230 @@
+ghost use Rattle.std.specs.Prelude.{◌≡◌, ◌≤◌, ◌+◌, ◌<◌, ◌^◌, ◌∷◌, ◌++◌, length, take, drop, map, slice_index, Option, Some, IfOk, OnOk};
+ghost use Rattle.st_schema.specs.declared.attribute.Attribute.{Attribute};
+ghost use Rattle.st_script.specs.Run.{present, IsPresent, HasRoom};
+ghost use Rattle.st_schema.specs.Outline.{attribute_of, attribute_called, type_named};
+ghost use Rattle.std.specs.List.{position_or_len};
+ghost use Rattle.std.specs.Vec.{vec_len};
+ghost use Rattle.std.specs.Str.{bytes_eq};
+ghost use Rattle.std.specs.Option.{option_copied, option_map};
+ghost use Rattle.st_meaning.specs.Terms.{bind, term_value};
+ghost use Rattle.st_meaning.specs.Statements.{cell_set, cells_set, makes, sets, does, answers};
+
+use crate::term::{term_value, term_values};
+use st_plain::Plain;
+use st_query::{Cell, Statement, Term, Variable};
+use st_schema::Attribute;
+use st_text::{Duplicate, Letters};
+use st_values::{EntityId, Value, Values};
+use std::alloc::{AllocError, Global};
+
+fn place_of(variables: &[Variable], name: &[u8]) -> usize
+    ensures value { result ≡ position_or_len (λ variable. bytes_eq variable.name name.now) variables.now }
+    ensures within { result ≤ length variables.now }
+{
+    let mut place = 0;
+    for variable in variables {
+        if variable.name.as_slice() == name {
+            return place;
+        }
+        place += 1;
+    }
+    place
+}
+
+/// Writes over the variable at a place, or adds one at the end.
+fn put(variables: &mut Vec<Variable>, place: usize, variable: Variable) -> Result<(), AllocError>
+    requires { place ≤ vec_len variables.old }
+    ensures { OnOk result (variables.new.items ≡ take place variables.old.items ++ variable ∷ drop (place + 1) variables.old.items) }
+{
+    if place < variables.len() {
+        variables[place] = variable;
+    } else {
+        variables.push(variable)?;
+    }
+    Ok(())
+}
+
+fn bind(
+    alloc: Global,
+    variables: &mut Vec<Variable>,
+    name: &Letters,
+    value: Value,
+) -> Result<(), AllocError>
+    ensures { OnOk result (variables.new.items ≡ bind name.now value variables.old.items) }
+{
+    let place = place_of(variables, name.as_slice());
+    let variable = Variable {
+        name: name.copy(alloc)?,
+        value,
+    };
+    put(variables, place, variable)
+}
+
+fn cell_values(
+    alloc: Global,
+    plain: &Plain,
+    variables: &[Variable],
+    cells: &[Cell],
+) -> Result<Vec<Value>, AllocError>
+    ensures { IfOk result (λ values. values.items ≡ map (λ cell. term_value plain.now variables.now cell.value) cells.now) }
+{
+    let mut values = Vec::new(alloc);
+    for cell in cells {
+        values.push(term_value(alloc, plain, variables, &cell.value)?)?;
+    }
+    Ok(values)
+}
+
+fn number_of(attribute: Option<&Attribute>) -> Option<u16>
+    ensures { result ≡ option_map (λ attribute. attribute.number) (option_copied attribute.entry) }
+{
+    match attribute {
+        Some(attribute) => Some(attribute.number),
+        None => None,
+    }
+}
+
+fn set_cell(
+    plain: &mut Plain,
+    ty: u16,
+    entity: EntityId,
+    cell: &Cell,
+    value: Value,
+) -> Result<(), AllocError>
+    ensures { OnOk result (plain.new ≡ cell_set (attribute_of plain.old.schema ty cell.now.name) entity value plain.old) }
+{
+    match number_of(plain.schema().attribute_of(ty, cell.name.as_slice())) {
+        Some(number) => plain.set(entity, number, value),
+        None => Ok(()),
+    }
+}
+
+fn set_cells(
+    plain: &mut Plain,
+    ty: u16,
+    entity: EntityId,
+    cells: &[Cell],
+    mut values: Vec<Value>,
+) -> Result<(), AllocError>
+    requires { vec_len values ≡ length cells.now }
+    ensures { OnOk result (plain.new ≡ cells_set ty entity cells.now values.items plain.old) }
+{
+    for cell in cells {
+        let value = values.remove(0);
+        set_cell(plain, ty, entity, cell, value)?;
+    }
+    Ok(())
+}
+
+fn make_of(
+    alloc: Global,
+    plain: &mut Plain,
+    variables: &mut Vec<Variable>,
+    var: &Letters,
+    ty: u16,
+    cells: &[Cell],
+) -> Result<(), AllocError>
+    requires there { ty < length plain.old.schema.names }
+    requires room { slice_index plain.old.last ty + 1 < 2 ^ 32 }
+    ensures { OnOk result (IsPresent (makes (present plain.old variables.old.items) var.now cells.now (Some ty)) plain.new variables.new.items) }
+{
+    let values = cell_values(alloc, plain, variables, cells)?;
+    let entity = plain.make(ty)?;
+    set_cells(plain, ty, entity, cells, values)?;
+    bind(alloc, variables, var, Value::Entity(entity))
+}
+
+fn type_named(plain: &Plain, name: &[u8]) -> Option<u16>
+    ensures { result ≡ type_named plain.now.schema name.now }
+{
+    plain.schema().type_named(name)
+}
+
+fn make(
+    alloc: Global,
+    plain: &mut Plain,
+    variables: &mut Vec<Variable>,
+    var: &Letters,
+    ty: &[u8],
+    cells: &[Cell],
+) -> Result<(), AllocError>
+    requires room { HasRoom plain.old }
+    ensures { OnOk result (IsPresent (makes (present plain.old variables.old.items) var.now cells.now (type_named plain.old.schema ty.now)) plain.new variables.new.items) }
+{
+    match type_named(plain, ty) {
+        Some(ty) => make_of(alloc, plain, variables, var, ty, cells),
+        None => Ok(()),
+    }
+}
+
+fn set_of(
+    plain: &mut Plain,
+    number: Option<u16>,
+    target: &Value,
+    value: Value,
+) -> Result<(), AllocError>
+    ensures { (attribute : Option Attribute) → number ≡ option_map (λ attribute. attribute.number) attribute →
+        OnOk result (plain.new ≡ sets plain.old attribute target.now value) }
+{
+    match (number, target) {
+        (Some(number), Value::Entity(entity)) => plain.set(*entity, number, value),
+        _ => Ok(()),
+    }
+}
+
+fn set(
+    alloc: Global,
+    plain: &mut Plain,
+    variables: &[Variable],
+    feature: &[u8],
+    target: &Term,
+    value: &Term,
+) -> Result<(), AllocError>
+    ensures { OnOk result (plain.new ≡ sets plain.old (attribute_called plain.old.schema feature.now)
+        (term_value plain.old variables.now target.now) (term_value plain.old variables.now value.now)) }
+{
+    let target = term_value(alloc, plain, variables, target)?;
+    let value = term_value(alloc, plain, variables, value)?;
+    let number = number_of(plain.schema().attribute_called(feature));
+    set_of(plain, number, &target, value)
+}
+
+/// Runs a statement, which was found to be in form: the values that it answers, if it answers any. Where memory
+/// wants, the statement may have been done in part, and the transaction can only be given up.
+pub fn step(
+    alloc: Global,
+    plain: &mut Plain,
+    variables: &mut Vec<Variable>,
+    statement: &Statement,
+) -> Result<Option<Values>, AllocError>
+    requires room { HasRoom plain.old }
+    ensures done { OnOk result (IsPresent (does (present plain.old variables.old.items) statement.now) plain.new variables.new.items) }
+    ensures answered { IfOk result (λ found. found ≡ answers (present plain.old variables.old.items) statement.now) }
+{
+    match statement {
+        Statement::Make { var, ty, cells } => {
+            make(
+                alloc,
+                plain,
+                variables,
+                var,
+                ty.as_slice(),
+                cells.as_slice(),
+            )?;
+            Ok(None)
+        }
+        Statement::Set {
+            attribute,
+            target,
+            value,
+        } => {
+            set(alloc, plain, variables, attribute.as_slice(), target, value)?;
+            Ok(None)
+        }
+        Statement::Print { terms } => {
+            let values = term_values(alloc, plain, variables, terms.as_slice())?;
+            Ok(Some(values))
+        }
+        _ => Ok(None),
+    }
+}
