@@ -1,0 +1,12 @@
+//! Checks of the whole database from its words to its output, over bytes in memory. The crate has
+//! tests and nothing else.
+#![tactic(auto)]
+
+#[cfg(test)]
+mod forms;
+#[cfg(test)]
+mod run;
+#[cfg(test)]
+mod tests;
+#[cfg(test)]
+mod transactions;

@@ -1,0 +1,4 @@
+mod OneAnswer
+mod Serials
+mod Running
+mod Taking

@@ -1,0 +1,12 @@
+use Rattle.std.proofs.Common.{◌≡◌, ◌+◌, ◌≤◌, drop}
+use Rattle.statice.specs.Run.{HasRun}
+use Rattle.statice.proofs.run.run.Given as goal
+
+abbrev pub invariant-loop-statement : goal.invariant-loop-statement
+invariant-loop-statement g l =
+    let sink = g.K.Sink in
+    record {
+      counted : l.turn ≡ l.statement-index + 1;
+      ran : HasRun l.fn.schema l.statements (drop l.statement-index l.statements) l.statement-index l.plain l.variables.items (sink.taken l.fn.sink) (sink.taken l.sink);
+      faults : sink.faults l.fn.sink ≤ sink.faults l.sink;
+    }

@@ -1,0 +1,11 @@
+//! The commands of the database: from words, a disk, a source and a sink to a status.
+#![tactic(auto)]
+
+mod command;
+mod input;
+mod line;
+mod program;
+mod run;
+mod words;
+
+pub use command::{Status, statice};
