@@ -1,0 +1,4 @@
+pub mod Outline
+pub mod Lattice
+pub mod Features
+pub mod Stores
