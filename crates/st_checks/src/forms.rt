@@ -62,9 +62,8 @@ integer)))(with-transaction (print 1))
 1 1.1 = 1
 2 1.1 commit 1"#;
 
-/// Whole inputs that are out of the thin form, one a line.
+/// Whole inputs that are text forms out of the thin form, one a line.
 pub const REFUSED: &str = r#"; nothing
-(define-schema a
 (define-schema s)
 (define-schema s) (define-entity-type t () ())
 (define-schema s) (with-transaction) ; no type

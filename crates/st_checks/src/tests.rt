@@ -1,12 +1,12 @@
-use crate::forms;
 use crate::run::{command, try_failing, try_input, try_text};
 use crate::transactions::{self, ADA, SCHEMA};
+use crate::{faults, forms};
 use statice::Status;
 use std::alloc::{AllocError, Global};
 use std::process::Abort;
 use std::test::Fail;
 
-/// The output of an input that is out of the thin form.
+/// The output of text forms that are out of the thin form.
 const LATER: &str = "fault later\n";
 
 /// Command lines that are no commands, one a line; the last has no word.
@@ -66,6 +66,8 @@ fn failures_of_the_outside_are_told(rt: HostRuntime) -> Result<(), Fail> {
         "2 1.1 = person#1 \"Ada\" 36\n",
         "the second write",
     );
+    let fault_write = try_failing(rt.alloc(), b")", &[], &[1])?;
+    expect(&rt, fault_write, 3, "", "the write of a fault");
     Ok(())
 }
 
@@ -86,7 +88,7 @@ fn expect_answers(rt: &impl Abort, alloc: Global, front: &str, table: &str) -> R
     Ok(())
 }
 
-/// Tries each line of a table, behind a text: none is in the thin form.
+/// Tries each line of a table, behind a text: they are text forms, and none is in the thin form.
 fn expect_refusals(rt: &impl Abort, alloc: Global, front: &str, table: &str) -> Result<(), Fail> {
     for line in table.lines() {
         expect(rt, try_text(alloc, front, line)?, 3, LATER, line);
@@ -117,18 +119,105 @@ fn inputs_in_the_thin_form_are_answered(rt: HostRuntime) -> Result<(), Fail> {
     expect_answers(&rt, rt.alloc(), "", forms::ANSWERED)
 }
 
+/// Tries each line of a table, behind a text: a text, ` => `, and its first fault's number and place.
+fn expect_faults(rt: &impl Abort, alloc: Global, front: &str, table: &str) -> Result<(), Fail> {
+    for line in table.lines() {
+        let (text, fault) = line.split_once(" => ").ok_or("a line without a fault")?;
+        let output = format!(in alloc; "fault text {fault}\n")?;
+        expect(rt, try_text(alloc, front, text)?, 3, output.as_str(), line);
+    }
+    Ok(())
+}
+
+/// Tries an input whose first fault has this number and place.
+fn expect_fault(rt: &impl Abort, alloc: Global, input: &[u8], fault: &str) -> Result<(), Fail> {
+    let output = format!(in alloc; "fault text {fault}\n")?;
+    expect(rt, try_input(alloc, input)?, 3, output.as_str(), fault);
+    Ok(())
+}
+
 #[test]
 fn other_inputs_are_refused(rt: HostRuntime) -> Result<(), Fail> {
-    let no_blank = "(with-transaction (print 1\x0b2))";
-    expect(
-        &rt,
-        try_text(rt.alloc(), SCHEMA, no_blank)?,
-        3,
-        LATER,
-        no_blank,
-    );
     expect_refusals(&rt, rt.alloc(), SCHEMA, transactions::REFUSED)?;
     expect_refusals(&rt, rt.alloc(), "", forms::REFUSED)
+}
+
+#[test]
+fn faults_of_texts_are_told(rt: HostRuntime) -> Result<(), Fail> {
+    expect_faults(&rt, rt.alloc(), "", faults::FAULTS)?;
+    expect_faults(&rt, rt.alloc(), SCHEMA, transactions::FAULTS)
+}
+
+#[test]
+fn what_looks_like_a_fault_is_none(rt: HostRuntime) -> Result<(), Fail> {
+    expect_refusals(&rt, rt.alloc(), "", faults::FAULTLESS)?;
+    for comment in ["; a\r)", ";\r9x", "a ; \x0b ["] {
+        expect(&rt, try_text(rt.alloc(), "", comment)?, 3, LATER, comment);
+    }
+    Ok(())
+}
+
+#[test]
+fn line_ends_are_blanks_and_parts_of_texts(rt: HostRuntime) -> Result<(), Fail> {
+    for (text, fault) in [
+        ("\"a\n", "1 0"),
+        ("(a ; b\n", "1 0"),
+        ("(\"a\nb\" 9x)", "3 7"),
+        ("\"a\\\nb\"", "2 2"),
+        ("; a\n)", "2 4"),
+        ("; a\r\n)", "2 5"),
+        (";\n9x", "3 2"),
+        ("\t\r\n )", "2 4"),
+        ("\x0c9x", "3 1"),
+    ] {
+        expect_fault(&rt, rt.alloc(), text.as_bytes(), fault)?;
+    }
+    Ok(())
+}
+
+#[test]
+fn control_bytes_are_stray_outside_texts(rt: HostRuntime) -> Result<(), Fail> {
+    for (text, fault) in [
+        ("\0", "2 0"),
+        ("a\0", "2 1"),
+        ("9\0", "3 0"),
+        ("a \x0b", "2 2"),
+        ("1\x0b2", "3 0"),
+        ("\x7f", "2 0"),
+        ("\u{feff}(a)", "2 0"),
+        ("a\u{feff}", "2 1"),
+        ("(\"\0\x0b\x7f\u{feff}é\" ~)", "2 12"),
+    ] {
+        expect_fault(&rt, rt.alloc(), text.as_bytes(), fault)?;
+    }
+    let no_blank = "(with-transaction (print 1\x0b2))";
+    let answer = try_text(rt.alloc(), SCHEMA, no_blank)?;
+    expect(&rt, answer, 3, "fault text 3 107\n", no_blank);
+    Ok(())
+}
+
+#[test]
+fn at_most_64_lists_are_open(rt: HostRuntime) -> Result<(), Fail> {
+    for (opened, inside, closed, fault) in [
+        (65, "", 0, "4 64"),
+        (65, "9x", 65, "4 64"),
+        (64, "9x(", 0, "3 64"),
+        (64, "\"((", 0, "1 64"),
+        (64, "", 0, "1 63"),
+        (64, "", 63, "1 0"),
+        (64, ")((", 0, "4 66"),
+        (64, "", 65, "2 128"),
+    ] {
+        let front = repeated(rt.alloc(), "(", opened)?;
+        let behind = repeated(rt.alloc(), ")", closed)?;
+        let text = format!(in rt.alloc(); "{front}{inside}{behind}")?;
+        expect_fault(&rt, rt.alloc(), text.as_bytes(), fault)?;
+    }
+    let front = repeated(rt.alloc(), "(", 64)?;
+    let behind = repeated(rt.alloc(), ")", 64)?;
+    let answer = try_text(rt.alloc(), front.as_str(), behind.as_str())?;
+    expect(&rt, answer, 3, LATER, "64 lists that are closed");
+    Ok(())
 }
 
 #[test]
@@ -137,7 +226,35 @@ fn an_input_is_utf_8_to_its_end(rt: HostRuntime) -> Result<(), Fail> {
     input.extend_from_slice(SCHEMA.as_bytes())?;
     input.extend_from_slice(ADA.as_bytes())?;
     input.extend_from_slice(b"; \xff")?;
-    expect(&rt, try_input(rt.alloc(), &input)?, 3, LATER, "a comment");
+    expect_fault(&rt, rt.alloc(), &input, "5 182")
+}
+
+#[test]
+fn bytes_that_are_no_utf_8_come_first(rt: HostRuntime) -> Result<(), Fail> {
+    expect_fault(&rt, rt.alloc(), b"\xff", "5 0")?;
+    expect_fault(&rt, rt.alloc(), b"a\xff", "5 1")?;
+    for (bytes, fault) in [
+        // a byte that only goes on
+        (*b"\x80   ", "5 0"),
+        // overlong forms
+        (*b"\xc0\x80  ", "5 0"),
+        (*b"(\xe0\x80\xaf", "5 1"),
+        // a surrogate in a text
+        (*b"\"\xed\xa0\x80", "5 1"),
+        // past the greatest character
+        (*b"\xf4\x90\x80\x80", "5 0"),
+        // characters that are cut at the end
+        (*b"(a\xe2\x82", "5 2"),
+        (*b"a \"\xc3", "5 3"),
+        // behind other faults
+        (*b")9x\xff", "5 3"),
+        // behind a character that is valid
+        (*b"\xc3\xa9\xff ", "5 2"),
+        // in a comment
+        (*b";  \xff", "5 3"),
+    ] {
+        expect_fault(&rt, rt.alloc(), &bytes, fault)?;
+    }
     Ok(())
 }
 

@@ -163,7 +163,7 @@ b"))
 2 1.1 = "Ada" "x" "y" 1
 3 1.1 commit 1"#;
 
-/// Texts behind `SCHEMA` that are out of the thin form, one a line.
+/// Texts behind `SCHEMA` that are text forms out of the thin form, one a line.
 pub const REFUSED: &str = r#"; no transaction
 (with-transaction (print 1)) (with-transaction (print 2)) ; two transactions
 (with-transaction (with-transaction (print 1))) ; a transaction in another
@@ -233,15 +233,18 @@ with-transaction ; no list
 (with-transaction (make -p person)) ; a name that begins with a hyphen
 (with-transaction (make p_q person)) ; an underscore in a name
 (with-transaction (make p.q person)) ; a dot in a name
-(with-transaction (make 1p person)) ; a number that goes on
-(with-transaction (make é person)) ; a name outside the letters
 (with-transaction (make p person (name "123456789012345678901234567890123456789012345678901234567890123456789012345678901"))) ; 81 bytes
 (with-transaction (make p person) (set (person.name p) "123456789012345678901234567890123456789012345678901234567890123456789012345678901")) ; 81 bytes
-(with-transaction (make p person (name "ééééééééééééééééééééééééééééééééééééééééé"))) ; 82 bytes in 41 letters
-(with-transaction (print 9223372036854775808)) ; past the greatest integer
-(with-transaction (print -9223372036854775809)) ; past the least integer
-(with-transaction (print "a\tb")) ; an escape that there isn't
-(with-transaction (print 'a')) ; a quote of another kind
-(with-transaction (print "a)) ; a text without its end
-(with-transaction (print 1) ; a list without its end
-(with-transaction (print 1))) ; an end without its list"#;
+(with-transaction (make p person (name "ééééééééééééééééééééééééééééééééééééééééé"))) ; 82 bytes in 41 letters"#;
+
+/// Texts behind `SCHEMA` that are no text forms, each on a line with the number and the place of its first fault.
+pub const FAULTS: &str = r#"(with-transaction (make 1p person)) ; a number that goes on => 3 106
+(with-transaction (make é person)) ; a name outside the letters => 2 106
+(with-transaction (print 9223372036854775808)) ; past the greatest integer => 3 107
+(with-transaction (print -9223372036854775809)) ; past the least integer => 3 107
+(with-transaction (print "a\tb")) ; an escape that there isn't => 2 109
+(with-transaction (print 'a')) ; a quote of another kind => 2 107
+(with-transaction (print "a)) ; a text without its end => 1 107
+(with-transaction (print 1) ; a list without its end => 1 82
+(with-transaction (print 1))) ; an end without its list => 2 110
+(with-transaction) ) ; behind a whole program => 2 101"#;

@@ -2,3 +2,4 @@ mod OneAnswer
 mod Serials
 mod Running
 mod Taking
+mod Finding

@@ -1,19 +1,22 @@
-ghost use Rattle.std.specs.Prelude.{◌≡◌, ◌≢◌, ◌<◌, ◌≤◌, ◌++◌, ◌⊎◌, [], ◌∷◌, ℕ, List, true, false, length, take, codes, IfSome};
+ghost use Rattle.std.specs.Prelude.{◌≡◌, ◌≢◌, ◌<◌, ◌≤◌, ◌++◌, ◌⊎◌, [], ◌∷◌, ℕ, List, true, false, length, take, codes, Some, Err, IfSome};
 ghost use Rattle.std.specs.Io.KnownBytes.{Appends, Consumes};
 ghost use Rattle.st_edge.specs.Faults.{Rose};
 ghost use Rattle.st_meaning.specs.Lines.{output_of};
 ghost use Rattle.st_thin.specs.Check.{Program};
-ghost use Rattle.statice.specs.Form.{IsThin, IsNotThin};
+ghost use Rattle.statice.specs.Form.{IsThin};
 ghost use Rattle.statice.specs.Output.{fault_line, printed_by, Takes, IsFront};
+ghost use Rattle.statice.specs.Refusal.{refusal_of, IsRefused, IsRefusal};
 ghost use Rattle.statice.specs.Words.{is_try};
 
 use crate::input::{InputFault, read_input};
-use crate::program::program_of;
+use crate::program::{Found, program_of};
+use crate::refusal::fault_line;
 use crate::run::{RunFault, run};
 use crate::words::is_try;
 use st_edge::{Disk, Failed, Sink, Source, write_all};
 use st_query::Statement;
 use st_schema::Schema;
+use st_sexp::SexpFault;
 use std::alloc::Global;
 
 /// How a command ended, the status of its process.
@@ -28,6 +31,21 @@ fn refuse<K: Sink>(sink: &mut K, line: &[u8], status: Status) -> Status
     match write_all(sink, line) {
         Ok(()) => status,
         Err(Failed) => status,
+    }
+}
+
+/// Writes the line of a text's fault, or that of want of memory.
+fn refuse_text<K: Sink>(alloc: Global, fault: SexpFault, sink: &mut K) -> Status
+    ensures known { (result ≡ 3) ⊎ (result ≡ 8) }
+    ensures refused { result ≡ 3 → (line : List ℕ) × (refusal_of (Err fault) ≡ Some line)
+        × Takes (K.taken sink.old) (K.taken sink.new) (K.faults sink.old) (K.faults sink.new) line }
+    ensures memory { result ≡ 8 →
+        Takes (K.taken sink.old) (K.taken sink.new) (K.faults sink.old) (K.faults sink.new) (fault_line (codes "memory")) }
+    ensures never_falls { K.faults sink.old ≤ K.faults sink.new }
+{
+    match fault_line(alloc, fault) {
+        Ok(line) => refuse(sink, line.as_slice(), 3),
+        Err(_) => refuse(sink, b"fault memory\n", 8),
     }
 }
 
@@ -60,9 +78,8 @@ fn run_input<K: Sink>(alloc: Global, input: &[u8], sink: &mut K) -> Status
     ensures known { (result ≡ 0) ⊎ (result ≡ 3) ⊎ (result ≡ 7) ⊎ (result ≡ 8) }
     ensures answered { result ≡ 0 → (program : Program) × IsThin input.now program
         × Appends (K.taken sink.old) (K.taken sink.new) (printed_by program) }
-    ensures later { result ≡ 3 → IsNotThin input.now }
-    ensures later_line { result ≡ 3 →
-        Takes (K.taken sink.old) (K.taken sink.new) (K.faults sink.old) (K.faults sink.new) (fault_line (codes "later")) }
+    ensures refused { result ≡ 3 → (line : List ℕ) × IsRefused input.now line
+        × Takes (K.taken sink.old) (K.taken sink.new) (K.faults sink.old) (K.faults sink.new) line }
     ensures cut { result ≡ 7 → (program : Program) × IsThin input.now program
         × (n : ℕ) × Appends (K.taken sink.old) (K.taken sink.new) (take n (printed_by program)) }
     ensures sink { result ≡ 7 → Rose (K.faults sink.old) (K.faults sink.new) }
@@ -72,8 +89,14 @@ fn run_input<K: Sink>(alloc: Global, input: &[u8], sink: &mut K) -> Status
 {
     match program_of(alloc, input) {
         Err(_) => refuse(sink, b"fault memory\n", 8),
-        Ok(None) => refuse(sink, b"fault later\n", 3),
-        Ok(Some((schema, statements))) => run_program(alloc, schema, statements.as_slice(), sink),
+        Ok(Found::Program(schema, statements)) => run_program(
+            alloc,
+            schema,
+            statements.as_slice(),
+            sink,
+        ),
+        Ok(Found::TextFault(fault)) => refuse_text(alloc, fault, sink),
+        Ok(Found::Later) => refuse(sink, b"fault later\n", 3),
     }
 }
 
@@ -82,9 +105,10 @@ fn try_input<S: Source, K: Sink>(alloc: Global, source: &mut S, sink: &mut K) ->
     ensures known { (result ≡ 0) ⊎ (result ≡ 3) ⊎ (result ≡ 6) ⊎ (result ≡ 7) ⊎ (result ≡ 8) ⊎ (result ≡ 9) }
     ensures answered { result ≡ 0 → IfSome (S.left source.old) (λ input. (program : Program) × IsThin input program
         × Appends (K.taken sink.old) (K.taken sink.new) (printed_by program)) }
-    ensures later { result ≡ 3 → IfSome (S.left source.old) IsNotThin }
-    ensures later_line { result ≡ 3 →
-        Takes (K.taken sink.old) (K.taken sink.new) (K.faults sink.old) (K.faults sink.new) (fault_line (codes "later")) }
+    ensures refused { result ≡ 3 → IfSome (S.left source.old) (λ input. (line : List ℕ) × IsRefused input line
+        × Takes (K.taken sink.old) (K.taken sink.new) (K.faults sink.old) (K.faults sink.new) line) }
+    ensures refused_line { result ≡ 3 → (line : List ℕ) × IsRefusal line
+        × Takes (K.taken sink.old) (K.taken sink.new) (K.faults sink.old) (K.faults sink.new) line }
     ensures source { result ≡ 6 → Rose (S.faults source.old) (S.faults source.new) }
     ensures source_line { result ≡ 6 →
         Takes (K.taken sink.old) (K.taken sink.new) (K.faults sink.old) (K.faults sink.new) (fault_line (codes "source")) }
@@ -114,9 +138,10 @@ fn try_input<S: Source, K: Sink>(alloc: Global, source: &mut S, sink: &mut K) ->
 /// makes no call on the disk, which comes back as it was handed in.
 ///
 /// The status is 0 where the transaction has run and its lines are written; 2 where the words are no command's, and
-/// then the source is not read; 3 where the input is not in the thin form; 6 where the source failed, 7 where the sink
-/// failed; 8 where memory wants; 9 where the input is longer than 1,048,576 bytes. All but 0 and 7 come with a line
-/// `fault ..` if the sink takes it.
+/// then the source is not read; 3 where the input is no text forms or not in the thin form; 6 where the source failed, 7
+/// where the sink failed; 8 where memory wants; 9 where the input is longer than 1,048,576 bytes. All but 0 and 7 come
+/// with a line `fault ..` if the sink takes it; for an input that is no text forms it is `fault text N PLACE`, its first
+/// fault's number and place in bytes.
 pub fn statice<D: Disk, S: Source, K: Sink>(
     alloc: Global,
     words: &[String],
@@ -140,10 +165,12 @@ pub fn statice<D: Disk, S: Source, K: Sink>(
     ensures answered { result.0 ≡ 0 → IfSome (S.left source.old) (λ input. (program : Program) × IsThin input program
         × Appends (K.taken sink.old) (K.taken sink.new) (printed_by program)) }
 
-    // 3: the input is no program of the thin form.
-    ensures later { result.0 ≡ 3 → IfSome (S.left source.old) IsNotThin }
-    ensures later_line { result.0 ≡ 3 →
-        Takes (K.taken sink.old) (K.taken sink.new) (K.faults sink.old) (K.faults sink.new) (fault_line (codes "later")) }
+    // 3: the input is no text forms, or no program of the thin form, and the sink took the line that is due for it.
+    // The line is one of these whatever the source tells.
+    ensures refused { result.0 ≡ 3 → IfSome (S.left source.old) (λ input. (line : List ℕ) × IsRefused input line
+        × Takes (K.taken sink.old) (K.taken sink.new) (K.faults sink.old) (K.faults sink.new) line) }
+    ensures refused_line { result.0 ≡ 3 → (line : List ℕ) × IsRefusal line
+        × Takes (K.taken sink.old) (K.taken sink.new) (K.faults sink.old) (K.faults sink.new) line }
 
     // 6: the source failed.
     ensures source { result.0 ≡ 6 → Rose (S.faults source.old) (S.faults source.new) }

@@ -4,8 +4,11 @@
 mod command;
 mod input;
 mod line;
+mod outcome;
 mod program;
+mod refusal;
 mod run;
 mod words;
 
 pub use command::{Status, statice};
+pub use outcome::one_outcome;

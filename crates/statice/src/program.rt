@@ -1,40 +1,41 @@
-ghost use Rattle.std.specs.Prelude.{◌≤◌, ℕ, List, length, Ok, IfOk, IfNone, IfSome};
-ghost use Rattle.st_sexp.specs.declared.form.Form.{Form};
-ghost use Rattle.st_sexp.specs.Reading.{Due};
-ghost use Rattle.statice.specs.Form.{IsThin, IsNotThin};
+ghost use Rattle.std.specs.Prelude.{◌≤◌, length, IfOk};
+ghost use Rattle.statice.specs.Found.{IsFound, IsFoundIn};
 
 use st_query::Statements;
 use st_schema::Schema;
-use st_sexp::{Forms, SexpFault, one_answer, read};
+use st_sexp::{Form, SexpFault, read};
 use st_thin::thin_program;
 use std::alloc::{AllocError, Global};
 
-/// The forms of an input, where it is text forms.
-fn forms_of(alloc: Global, input: &[u8]) -> Result<Option<Forms>, AllocError>
-    requires { length input.now ≤ 1048576 }
-    ensures some { IfOk result (λ found. IfSome found (λ forms. Due input.now (Ok forms))) }
-    ensures none { IfOk result (λ found. IfNone found ((forms : List Form) → Due input.now (Ok forms) → ⊥)) }
+/// What an input is.
+#[derive(Drop)]
+pub enum Found {
+    /// A program of the thin form.
+    Program(Schema, Statements),
+    /// No text forms: their first fault, which is never want of memory.
+    TextFault(SexpFault),
+    /// Text forms that are no program of the thin form.
+    Later,
+}
+
+/// What forms are.
+fn found_in(alloc: Global, forms: &[Form]) -> Result<Found, AllocError>
+    ensures { IfOk result (IsFoundIn forms.now) }
 {
-    one_answer();
-    match read(alloc, input) {
-        Ok(forms) => Ok(Some(forms)),
-        Err(fault) => match fault {
-            SexpFault::Memory => Err(AllocError),
-            _ => Ok(None),
-        },
+    match thin_program(alloc, forms)? {
+        Some((schema, statements)) => Ok(Found::Program(schema, statements)),
+        None => Ok(Found::Later),
     }
 }
 
-/// The program that an input is, where it is one of the thin form.
-pub fn program_of(alloc: Global, input: &[u8]) -> Result<Option<(Schema, Statements)>, AllocError>
+/// What an input is.
+pub fn program_of(alloc: Global, input: &[u8]) -> Result<Found, AllocError>
     requires { length input.now ≤ 1048576 }
-    ensures some { IfOk result (λ found. IfSome found (IsThin input.now)) }
-    ensures few { IfOk result (λ found. IfSome found (λ program. length (program.1) ≤ 4096)) }
-    ensures none { IfOk result (λ found. IfNone found (IsNotThin input.now)) }
+    ensures { IfOk result (IsFound input.now) }
 {
-    one_answer();
-    let Some(forms) = forms_of(alloc, input)? else {
-        return Ok(None);
-    };
-    thin_program(alloc, forms.as_slice())
+    match read(alloc, input) {
+        Ok(forms) => found_in(alloc, forms.as_slice()),
+        Err(SexpFault::Memory) => Err(AllocError),
+        Err(fault) => Ok(Found::TextFault(fault)),
+    }
 }
