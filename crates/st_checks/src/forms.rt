@@ -62,42 +62,57 @@ integer)))(with-transaction (print 1))
 1 1.1 = 1
 2 1.1 commit 1"#;
 
-/// Whole inputs that are text forms out of the thin form, one a line.
-pub const REFUSED: &str = r#"; nothing
-(define-schema s)
-(define-schema s) (define-entity-type t () ())
-(define-schema s) (with-transaction) ; no type
-(define-entity-type t () ()) (with-transaction) ; no schema
-(define-entity-type t () ()) (define-schema s) (with-transaction) ; the type first
-(define-schema s) (with-transaction) (define-entity-type t () ()) ; the type last
-(define-schema s) (define-schema s) (define-entity-type t () ()) (with-transaction) ; two schemas
-(define-schema s) (define-entity-type t () ()) (define-entity-type u () ()) (with-transaction) ; two types
-(define-schema) (define-entity-type t () ()) (with-transaction) ; a schema without a name
-(define-schema s t) (define-entity-type t () ()) (with-transaction) ; a schema of two names
-(define-schema "s") (define-entity-type t () ()) (with-transaction) ; a text for a name
-(define-schema 1) (define-entity-type t () ()) (with-transaction) ; a number for a name
-(define-schema (s)) (define-entity-type t () ()) (with-transaction) ; a list for a name
-(define-schema s.t) (define-entity-type t () ()) (with-transaction) ; a dot in a name
-(define-schema string) (define-entity-type t () ()) (with-transaction) ; reserved
-(define-schema abcdefghijklmnopqrstuvwxyz-12345) (define-entity-type t () ()) (with-transaction) ; a name of 32 bytes
-(define-schema s) (define-entity-type boolean () ()) (with-transaction) ; reserved
-(define-schema s) (define-entity-type abcdefghijklmnopqrstuvwxyz-12345 () ()) (with-transaction) ; a name of 32 bytes
-(define-schema s) (define-entity-type t (u) ()) (with-transaction) ; a parent
-(define-schema s) (define-entity-type t u ()) (with-transaction) ; parents that are no list
-(define-schema s) (define-entity-type t ()) (with-transaction) ; no list of attributes
-(define-schema s) (define-entity-type t () () ()) (with-transaction) ; a list more
-(define-schema s) (define-entity-type t () a) (with-transaction) ; attributes that are no list
-(define-schema s) (define-entity-type t () (a integer)) (with-transaction) ; an attribute that is no list
-(define-schema s) (define-entity-type t () ((a))) (with-transaction) ; an attribute without a kind
-(define-schema s) (define-entity-type t () ((a integer unique))) (with-transaction) ; an option
-(define-schema s) (define-entity-type t () ((a integer (no-nulls true)))) (with-transaction) ; an option
+/// Whole inputs that are text forms and no program, each on a line with what its fault line says.
+pub const REFUSED: &str = r#"; nothing => schema 1 0
+(define-schema s) => schema 1 0
+(define-schema s) (define-entity-type t () ()) => later
+(define-schema s) (with-transaction) ; no type => schema 1 0
+(define-entity-type t () ()) (with-transaction) ; no schema => schema 1 0
+(define-entity-type t () ()) (define-schema s) (with-transaction) ; the type first => schema 1 0
+(define-schema s) (with-transaction) (define-entity-type t () ()) ; the type last => schema 1 0
+(define-schema s) (define-schema s) (define-entity-type t () ()) (with-transaction) ; two schemas => schema 1 18
+(define-schema) (define-entity-type t () ()) (with-transaction) ; a schema without a name => schema 1 0
+(define-schema s t) (define-entity-type t () ()) (with-transaction) ; a schema of two names => schema 1 17
+(define-schema "s") (define-entity-type t () ()) (with-transaction) ; a text for a name => schema 1 15
+(define-schema 1) (define-entity-type t () ()) (with-transaction) ; a number for a name => schema 1 15
+(define-schema (s)) (define-entity-type t () ()) (with-transaction) ; a list for a name => schema 1 15
+(define-schema s.t) (define-entity-type t () ()) (with-transaction) ; a dot in a name => schema 1 15
+(define-schema string) (define-entity-type t () ()) (with-transaction) ; reserved => schema 1 15
+(define-schema abcdefghijklmnopqrstuvwxyz-12345) (define-entity-type t () ()) (with-transaction) ; a name of 32 bytes => schema 1 15
+(define-schema s) (define-entity-type boolean () ()) (with-transaction) ; reserved => schema 1 38
+(define-schema s) (define-entity-type abcdefghijklmnopqrstuvwxyz-12345 () ()) (with-transaction) ; a name of 32 bytes => schema 1 38
+(define-schema s) (define-entity-type t (u) ()) (with-transaction) ; a parent => schema 3 u
+(define-schema s) (define-entity-type t u ()) (with-transaction) ; parents that are no list => schema 1 40
+(define-schema s) (define-entity-type t ()) (with-transaction) ; no list of attributes => schema 1 18
+(define-schema s) (define-entity-type t () () ()) (with-transaction) ; a list more => schema 1 46
+(define-schema s) (define-entity-type t () a) (with-transaction) ; attributes that are no list => schema 1 43
+(define-schema s) (define-entity-type t () (a integer)) (with-transaction) ; an attribute that is no list => schema 1 44
+(define-schema s) (define-entity-type t () ((a))) (with-transaction) ; an attribute without a kind => schema 1 44
+(define-schema s) (define-entity-type t () ((a integer unique))) (with-transaction) ; an option => schema 8 55
+(define-schema s) (define-entity-type t () ((a integer (no-nulls true)))) (with-transaction) ; an option => schema 1 55
+(define-schema s) (define-entity-type t () ((a "integer"))) (with-transaction) ; a text for a kind => schema 1 47
+(define-schema s) (define-entity-type t () ((a integer) (b integer) (a string))) (with-transaction) ; an attribute twice => schema 2 a
+(define-schema s) (define-entity-type t () ((a integer) (A integer))) (with-transaction) ; an attribute twice, once in capitals => schema 2 a
+(define-schema s) (define-entity-type t () ((null integer))) (with-transaction) ; reserved => schema 1 45
+(define-schema s) (define-entity-type t () ((true integer))) (with-transaction) ; reserved => schema 1 45
+(define-schema s) (define-entity-type t () ((abcdefghijklmnopqrstuvwxyz-12345 integer))) (with-transaction) ; a name of 32 bytes => schema 1 45
+(define-schema q) (define-entity-type a () ((x integer))) (define-entity-type b () ((x string))) (define-entity-type c (a b) ()) => schema 5 c x
+(define-schema s) (define-entity-type t () ()) (define-entity-type t () ()) (with-transaction) => schema 2 t
+(define-schema s) (define-entity-type t () ((a u))) (with-transaction) => schema 4 u
+(define-schema s) (define-entity-type t () ((a integer :unique t :unique t))) (with-transaction) => schema 8 65
+(define-schema s) (define-entity-type t () ((a integer :inverse b))) (with-transaction) => schema 8 55
+(define-schema s) (define-entity-type t () ((a (set-of integer) :no-nulls t))) (with-transaction) => schema 8 64
+(define-schema s) (define-entity-type t () ((a (string 200)) (b (string 200)) (c (string 200)) (d (string 200)) (e (string 200)))) (with-transaction) => schema 6 t 1014
+(define-schema s) (define-entity-type t () ((a (string 0)))) (with-transaction) => schema 1 55
+(define-schema s) (define-entity-type t (u) ()) (with-transaction (abort)) 5 => schema 3 u
+(define-schema s) (define-entity-type t () ()) (with-transaction) (with-transaction) ; two transactions => later
+(define-schema s) (define-entity-type t () ()) (abort) ; no list that begins a script => schema 1 47
+(define-schema s) (define-entity-type t () ()) (with-transaction) (define-entity-type u () ()) ; a type behind => later"#;
+
+/// Whole inputs whose transaction is empty, one a line.
+pub const EMPTY: &str =
+    r#"(define-schema s) (define-entity-type t () ()) (define-entity-type u () ()) (with-transaction) ; two types
 (define-schema s) (define-entity-type t () ((a boolean))) (with-transaction) ; truth values
 (define-schema s) (define-entity-type t () ((a (set-of integer)))) (with-transaction) ; a set
 (define-schema s) (define-entity-type t () ((a t))) (with-transaction) ; entities
-(define-schema s) (define-entity-type t () ((a "integer"))) (with-transaction) ; a text for a kind
-(define-schema s) (define-entity-type t () ((a integer) (b integer) (a string))) (with-transaction) ; an attribute twice
-(define-schema s) (define-entity-type t () ((a integer) (A integer))) (with-transaction) ; an attribute twice, once in capitals
-(define-schema s) (define-entity-type t () ((null integer))) (with-transaction) ; reserved
-(define-schema s) (define-entity-type t () ((true integer))) (with-transaction) ; reserved
-(define-schema s) (define-entity-type t () ((abcdefghijklmnopqrstuvwxyz-12345 integer))) (with-transaction) ; a name of 32 bytes
 (define-schema s) (define-entity-type t () ((a integer) (b string) (c integer) (d string) (e integer) (f string) (g integer) (h string) (i integer))) (with-transaction) ; nine attributes"#;

@@ -9,6 +9,8 @@ mod forms;
 #[cfg(test)]
 mod run;
 #[cfg(test)]
+mod schemas;
+#[cfg(test)]
 mod tests;
 #[cfg(test)]
 mod transactions;

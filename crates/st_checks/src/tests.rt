@@ -1,13 +1,16 @@
 use crate::run::{command, try_failing, try_input, try_text};
 use crate::transactions::{self, ADA, SCHEMA};
-use crate::{faults, forms};
+use crate::{faults, forms, schemas};
 use statice::Status;
 use std::alloc::{AllocError, Global};
 use std::process::Abort;
 use std::test::Fail;
 
-/// The output of text forms that are out of the thin form.
+/// The output of a schema and a script that is out of the thin form.
 const LATER: &str = "fault later\n";
+
+/// The output of text forms without a schema in front.
+const NO_SCHEMA: &str = "fault schema 1 0\n";
 
 /// Command lines that are no commands, one a line; the last has no word.
 const WORDS: &str = "run\nrun now\n--help\nload 0 1\ntry 1\ntry try\nTRY\n\n";
@@ -41,7 +44,7 @@ fn other_words_are_faults(rt: HostRuntime) -> Result<(), Fail> {
 fn an_input_has_at_most_a_mebibyte(rt: HostRuntime) -> Result<(), Fail> {
     let blanks = repeated(rt.alloc(), " ", 1_048_576)?;
     let full = try_input(rt.alloc(), blanks.as_bytes())?;
-    expect(&rt, full, 3, LATER, "1,048,576 bytes");
+    expect(&rt, full, 3, NO_SCHEMA, "1,048,576 bytes");
     let over = try_text(rt.alloc(), blanks.as_str(), " ")?;
     expect(&rt, over, 9, "fault input 1048577\n", "a byte more");
     Ok(())
@@ -88,10 +91,26 @@ fn expect_answers(rt: &impl Abort, alloc: Global, front: &str, table: &str) -> R
     Ok(())
 }
 
-/// Tries each line of a table, behind a text: they are text forms, and none is in the thin form.
-fn expect_refusals(rt: &impl Abort, alloc: Global, front: &str, table: &str) -> Result<(), Fail> {
+/// Tries each line of a table, behind a text: each is refused with this output.
+fn expect_refusals(
+    rt: &impl Abort,
+    alloc: Global,
+    front: &str,
+    table: &str,
+    output: &str,
+) -> Result<(), Fail> {
     for line in table.lines() {
-        expect(rt, try_text(alloc, front, line)?, 3, LATER, line);
+        expect(rt, try_text(alloc, front, line)?, 3, output, line);
+    }
+    Ok(())
+}
+
+/// Tries each line of a table, behind a text: a text, ` => `, and what its fault line says behind `fault`.
+fn expect_told(rt: &impl Abort, alloc: Global, front: &str, table: &str) -> Result<(), Fail> {
+    for line in table.lines() {
+        let (text, fault) = line.split_once(" => ").ok_or("a line without a fault")?;
+        let output = format!(in alloc; "fault {fault}\n")?;
+        expect(rt, try_text(alloc, front, text)?, 3, output.as_str(), line);
     }
     Ok(())
 }
@@ -137,9 +156,31 @@ fn expect_fault(rt: &impl Abort, alloc: Global, input: &[u8], fault: &str) -> Re
 }
 
 #[test]
-fn other_inputs_are_refused(rt: HostRuntime) -> Result<(), Fail> {
-    expect_refusals(&rt, rt.alloc(), SCHEMA, transactions::REFUSED)?;
-    expect_refusals(&rt, rt.alloc(), "", forms::REFUSED)
+fn schemas_of_several_types_are_answered(rt: HostRuntime) -> Result<(), Fail> {
+    expect_answers(&rt, rt.alloc(), "", schemas::ANSWERED)?;
+    for line in forms::EMPTY.lines() {
+        expect(
+            &rt,
+            try_text(rt.alloc(), "", line)?,
+            0,
+            "1 1.1 commit 1\n",
+            line,
+        );
+    }
+    Ok(())
+}
+
+#[test]
+fn scripts_out_of_form_are_left_for_later(rt: HostRuntime) -> Result<(), Fail> {
+    expect_refusals(&rt, rt.alloc(), SCHEMA, transactions::REFUSED, LATER)?;
+    expect_refusals(&rt, rt.alloc(), schemas::SCHOOL, schemas::LATER, LATER)?;
+    expect_refusals(&rt, rt.alloc(), "", schemas::BREAKABLE, LATER)
+}
+
+#[test]
+fn faults_of_schemas_are_told(rt: HostRuntime) -> Result<(), Fail> {
+    expect_told(&rt, rt.alloc(), "", forms::REFUSED)?;
+    expect_told(&rt, rt.alloc(), SCHEMA, transactions::MISFITS)
 }
 
 #[test]
@@ -150,9 +191,15 @@ fn faults_of_texts_are_told(rt: HostRuntime) -> Result<(), Fail> {
 
 #[test]
 fn what_looks_like_a_fault_is_none(rt: HostRuntime) -> Result<(), Fail> {
-    expect_refusals(&rt, rt.alloc(), "", faults::FAULTLESS)?;
+    expect_refusals(&rt, rt.alloc(), "", faults::FAULTLESS, NO_SCHEMA)?;
     for comment in ["; a\r)", ";\r9x", "a ; \x0b ["] {
-        expect(&rt, try_text(rt.alloc(), "", comment)?, 3, LATER, comment);
+        expect(
+            &rt,
+            try_text(rt.alloc(), "", comment)?,
+            3,
+            NO_SCHEMA,
+            comment,
+        );
     }
     Ok(())
 }
@@ -216,7 +263,7 @@ fn at_most_64_lists_are_open(rt: HostRuntime) -> Result<(), Fail> {
     let front = repeated(rt.alloc(), "(", 64)?;
     let behind = repeated(rt.alloc(), ")", 64)?;
     let answer = try_text(rt.alloc(), front.as_str(), behind.as_str())?;
-    expect(&rt, answer, 3, LATER, "64 lists that are closed");
+    expect(&rt, answer, 3, NO_SCHEMA, "64 lists that are closed");
     Ok(())
 }
 

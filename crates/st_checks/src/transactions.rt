@@ -168,10 +168,6 @@ pub const REFUSED: &str = r#"; no transaction
 (with-transaction (print 1)) (with-transaction (print 2)) ; two transactions
 (with-transaction (with-transaction (print 1))) ; a transaction in another
 (with-transaction (print 1)) 1 ; a form behind the transaction
-(print 1) ; a statement outside
-with-transaction ; no list
-(with-transactions (print 1)) ; another word
-("with-transaction" (print 1)) ; a text for the word
 (with-transaction print 1) ; statements that are no lists
 (with-transaction ()) ; an empty statement
 (with-transaction ((print 1))) ; a statement in a list
@@ -236,6 +232,12 @@ with-transaction ; no list
 (with-transaction (make p person (name "123456789012345678901234567890123456789012345678901234567890123456789012345678901"))) ; 81 bytes
 (with-transaction (make p person) (set (person.name p) "123456789012345678901234567890123456789012345678901234567890123456789012345678901")) ; 81 bytes
 (with-transaction (make p person (name "ééééééééééééééééééééééééééééééééééééééééé"))) ; 82 bytes in 41 letters"#;
+
+/// Texts behind `SCHEMA` that make no schema with it, each on a line with what its fault line says.
+pub const MISFITS: &str = r#"(print 1) ; a statement outside => schema 1 82
+with-transaction ; no list => schema 1 82
+(with-transactions (print 1)) ; another word => schema 1 82
+("with-transaction" (print 1)) ; a text for the word => schema 1 82"#;
 
 /// Texts behind `SCHEMA` that are no text forms, each on a line with the number and the place of its first fault.
 pub const FAULTS: &str = r#"(with-transaction (make 1p person)) ; a number that goes on => 3 106

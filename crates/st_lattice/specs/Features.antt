@@ -6,14 +6,9 @@ use Rattle.st_values.specs.declared.value.Kind.{Kind}
 use Rattle.st_values.specs.declared.value.Kind.TheVariants as kind
 use Rattle.st_lattice.specs.declared.attribute.Attribute.{Attribute}
 use Rattle.st_lattice.specs.declared.feature.Feature.{Feature}
+use Rattle.st_lattice.specs.declared.feature.Named.{Named}
 use Rattle.st_lattice.specs.declared.feature.Feature.TheVariants as feature
-use Rattle.st_lattice.specs.Outline.{Outline, qualified}
-
--- a feature with the type that has it and its short name
-pub record Named : Type 0 where
-  pub ty : ℕ
-  pub name : List ℕ
-  pub feature : Feature
+use Rattle.st_lattice.specs.Outline.{Outline, qualified_by}
 
 -- an attribute, as its owner has it
 abbrev pub own : Attribute → Named
@@ -40,9 +35,13 @@ abbrev pub features_of : Outline → ℕ → List Named
 features_of schema ty = filter (λ f. f.ty == ty) (features schema)
 
 -- whether a feature has a qualified name, `type.name`
-abbrev pub is_called : Outline → List ℕ → Named → Bool
-is_called schema name f = bytes_eq name (qualified schema f.ty f.name)
+abbrev pub is_called : List (List ℕ) → List ℕ → Named → Bool
+is_called names name f = bytes_eq name (qualified_by names f.ty f.name)
+
+-- the first of some features with a qualified name
+abbrev pub called : List (List ℕ) → List ℕ → List Named → Option Feature
+called names name fs = option_map (λ f. f.feature) (find (is_called names name) fs)
 
 -- the feature with a qualified name
 abbrev pub lookup : Outline → List ℕ → Option Feature
-lookup schema name = option_map (λ f. f.feature) (find (is_called schema name) (features schema))
+lookup schema name = called schema.names name (features schema)

@@ -1,6 +1,6 @@
 -- Which types are of which, and which attributes a type has from those that it descends from.
-use Rattle.std.specs.Prelude.{ℕ, zero, suc, ◌+◌, Bool, ◌==◌, ◌||◌, ◌&&◌, List, [], ◌∷◌, length, map, filter, find, slice_index_or, Option}
-use Rattle.std.specs.List.{list_any}
+use Rattle.std.specs.Prelude.{ℕ, zero, suc, Bool, false, ◌==◌, ◌||◌, ◌&&◌, List, [], ◌∷◌, length, map, filter, find, slice_index_or, Option}
+use Rattle.std.specs.List.{list_any, range_with_len}
 use Rattle.std.specs.Str.{bytes_eq}
 use Rattle.st_lattice.specs.declared.attribute.Attribute.{Attribute}
 use Rattle.st_lattice.specs.Outline.{Outline}
@@ -11,19 +11,34 @@ isa_within zero parents ty ancestor = ty == ancestor
 isa_within (suc steps) parents ty ancestor =
     (ty == ancestor) || list_any (λ p. isa_within steps parents p ancestor) (slice_index_or parents ty [])
 
--- Whether a type is another one or descends from it: it is that type, or a parent of it is of that type. Parents
--- stand before their children, so that a type has no more steps above it than its position.
-abbrev pub isa : Outline → ℕ → ℕ → Bool
-isa schema ty ancestor = isa_within ty schema.parents ty ancestor
+-- The same without a bound, by the parents of all types: parents stand before their children, so that a type has no
+-- more steps above it than its position.
+abbrev pub isa_by : List (List ℕ) → ℕ → ℕ → Bool
+isa_by parents ty ancestor = isa_within ty parents ty ancestor
 
--- so many numbers from one on
-abbrev pub numbers_from : ℕ → ℕ → List ℕ
-numbers_from first zero = []
-numbers_from first (suc count) = first ∷ numbers_from (first + 1) count
+-- whether a type is another one or descends from it: it is that type, or a parent of it is of that type
+abbrev pub isa : Outline → ℕ → ℕ → Bool
+isa schema ty ancestor = isa_by schema.parents ty ancestor
 
 -- the numbers below one, ascending
 abbrev pub below : ℕ → List ℕ
-below count = numbers_from 0 count
+below count = range_with_len 0 count
+
+-- for each of the first types, which of so many types it is of
+abbrev pub descent_rows : List (List ℕ) → ℕ → ℕ → List (List Bool)
+descent_rows parents count types = map (λ ty. map (isa_by parents ty) (below count)) (below types)
+
+-- what such rows say of a type and another; false outside them
+abbrev pub said : List (List Bool) → ℕ → ℕ → Bool
+said rows ty ancestor = slice_index_or (slice_index_or rows ty []) ancestor false
+
+-- whether a type is of another by the rows of its parents
+abbrev pub says : List (List Bool) → List ℕ → ℕ → ℕ → Bool
+says rows above ty ancestor = (ty == ancestor) || list_any (λ p. said rows p ancestor) above
+
+-- which of so many types a type is of, by the rows of its parents
+abbrev pub next_row : List (List Bool) → List ℕ → ℕ → ℕ → List Bool
+next_row rows above count ty = map (says rows above ty) (below count)
 
 -- the type and all that it descends from, ascending
 abbrev pub ancestors : Outline → ℕ → List ℕ

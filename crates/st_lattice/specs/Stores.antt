@@ -4,24 +4,49 @@ use Rattle.std.specs.List.{sum_by}
 use Rattle.st_values.specs.declared.value.Kind.{Kind}
 use Rattle.st_values.specs.declared.value.Kind.TheVariants as kind
 use Rattle.st_lattice.specs.declared.attribute.Attribute.{Attribute}
+use Rattle.st_lattice.specs.declared.stores.StoreKind.{StoreKind}
+use Rattle.st_lattice.specs.declared.stores.StoreKind.TheVariants.{Extent, Set, Index, Inverse, Column}
 use Rattle.st_lattice.specs.Outline.{Outline, attribute}
 use Rattle.st_lattice.specs.Lattice.{below, attributes_in}
+
+-- the number of a kind of stores
+abbrev pub kind_number : StoreKind → ℕ
+kind_number Extent = 0
+kind_number Set = 1
+kind_number Index = 2
+kind_number Inverse = 3
+kind_number Column = 4
+
+-- the number of a store: its kind, and the number of its type or attribute
+abbrev pub store : StoreKind → ℕ → ℕ
+store kind number = kind_number kind * 65536 + number
+
+-- whether an attribute has a store of a kind: a set of values, an index, an inverse, or a column apart from the rows
+abbrev pub keeps : StoreKind → Attribute → Bool
+keeps Extent a = false
+keeps Set a = a.many
+keeps Index a = a.index
+keeps Inverse a = is_some a.inverse
+keeps Column a = a.column
 
 -- whether an attribute is there and passes a test
 abbrev pub passes : (Attribute → Bool) → Option Attribute → Bool
 passes test None = false
 passes test (Some a) = test a
 
--- the stores of a kind, one for each attribute that passes a test, by the attribute's number
-abbrev pub stores_where : Outline → ℕ → (Attribute → Bool) → List ℕ
-stores_where schema kind test = map (λ number. kind * 65536 + number) (filter (λ number. passes test (attribute schema number)) (below schema.next))
+-- whether an attribute is there and has a store of a kind
+abbrev pub keeps_one : StoreKind → Option Attribute → Bool
+keeps_one kind a = passes (keeps kind) a
 
--- The stores of a schema, ascending: an extent for each type, then a set for each attribute that has sets, an index
--- for each that keeps one, an inverse for each that has one, and a column for each that stands apart from the rows.
+-- the stores of a kind, ascending, of the attributes whose numbers are below one
+abbrev pub stores_below : Outline → StoreKind → ℕ → List ℕ
+stores_below schema kind count = map (store kind) (filter (λ number. keeps_one kind (attribute schema number)) (below count))
+
+-- The stores of a schema, ascending: the types' extents, then the sets, indexes, inverses and columns of attributes.
 abbrev pub stores_of : Outline → List ℕ
 stores_of schema =
-    below (length schema.names) ++ stores_where schema 1 (λ a. a.many) ++ stores_where schema 2 (λ a. a.index)
-    ++ stores_where schema 3 (λ a. is_some a.inverse) ++ stores_where schema 4 (λ a. a.column)
+    map (store Extent) (below (length schema.names)) ++ stores_below schema Set schema.next ++ stores_below schema Index schema.next
+    ++ stores_below schema Inverse schema.next ++ stores_below schema Column schema.next
 
 -- how many bytes the key of a value takes
 abbrev pub key_width : Kind → ℕ

@@ -1,25 +1,21 @@
 -- Transactions that were worked out by hand, over a schema of one type.
-use Rattle.std.specs.Prelude.{ℕ, ℤ, pos, negsuc, true, false, List, [], ◌∷◌, ◌++◌, flat_map, codes, None}
-use Rattle.st_values.specs.declared.value.Kind.TheVariants as kind
-use Rattle.st_schema.specs.declared.attribute.Attribute.{Attribute}
-use Rattle.st_schema.specs.Outline.{Outline}
+use Rattle.std.specs.Prelude.{ℕ, ℤ, pos, negsuc, true, false, List, [], ◌∷◌, ◌++◌, flat_map, codes}
+use Rattle.st_lattice.specs.Outline.{Outline}
 use Rattle.st_query.specs.declared.statement.Cell.{Cell}
+use Rattle.st_query.specs.declared.statement.Condition.{Condition}
+use Rattle.st_query.specs.declared.statement.Key.{Key}
+use Rattle.st_query.specs.declared.statement.Query.{Query}
 use Rattle.st_query.specs.declared.statement.Statement.{Statement}
 use Rattle.st_query.specs.declared.statement.Statement.TheVariants.{Make, Set, Print}
+use Rattle.st_state.specs.State.{empty_state}
+use Rattle.st_meaning.specs.Lines.{client_lines}
 use Rattle.st_query.specs.declared.term.Literal.TheVariants.{Null, Int, Bool, Text, Entity}
-use Rattle.st_query.specs.declared.term.Term.{Term}
-use Rattle.st_query.specs.declared.term.Term.TheVariants.{Literal, Variable, Path}
+use Rattle.st_query.specs.declared.term.Term.{Term, Path', more_of-Term, end_of-Term}
+use Rattle.st_query.specs.declared.term.Term.TheVariants.{Literal, Variable}
 
--- a person has a name, attribute 0, and an age, attribute 1
-abbrev pub name_attribute : Attribute
-name_attribute = record { number = 0; owner = 0; name = codes "name"; kind = kind.Text 80; many = false; inverse = None; unique = false; no_nulls = false; index = false; column = false }
-
-abbrev pub age_attribute : Attribute
-age_attribute = record { number = 1; owner = 0; name = codes "age"; kind = kind.Int; many = false; inverse = None; unique = false; no_nulls = false; index = false; column = false }
-
--- the schema
-abbrev pub tiny : Outline
-tiny = record { name = codes "tiny"; names = codes "person" ∷ []; parents = [] ∷ []; attributes = name_attribute ∷ age_attribute ∷ [] }
+-- a feature of what a term stands for, as a path is built of the term in it
+abbrev pub path : List ℕ → Term → Term
+path feature inner = Path' feature tt (more_of-Term inner end_of-Term)
 
 -- two variables
 abbrev pub p : Term
@@ -37,10 +33,10 @@ int number = Literal (Int number)
 
 -- the two paths from a person
 abbrev pub name_of : Term → Term
-name_of person = Path (codes "person.name") person
+name_of person = path (codes "person.name") person
 
 abbrev pub age_of : Term → Term
-age_of person = Path (codes "person.age") person
+age_of person = path (codes "person.age") person
 
 -- the two cells of a person
 abbrev pub name_is : Term → Cell
@@ -48,6 +44,14 @@ name_is value = record { name = codes "name"; value = value }
 
 abbrev pub age_is : Term → Cell
 age_is value = record { name = codes "age"; value = value }
+
+-- a cell
+abbrev pub is : List ℕ → Term → Cell
+is name value = record { name = name; value = value }
+
+-- a query
+abbrev pub query_of : List ℕ → List ℕ → List Condition → List Key → List Term → Query
+query_of var ty conditions keys shown = record { var = var; ty = ty; conditions = conditions; keys = keys; shown = shown }
 
 -- a person is made, and the variable p or q bound to it
 abbrev pub make_p : List Cell → Statement
@@ -96,7 +100,12 @@ row_extremes =
 
 -- values that are written out, and a path over null
 abbrev pub row_literals : List Statement
-row_literals = Print (Literal Null ∷ Literal (Bool true) ∷ Literal (Bool false) ∷ Literal (Entity (codes "person") 7) ∷ name_of (Literal Null) ∷ []) ∷ []
+row_literals =
+    make_p [] ∷ Print (Literal Null ∷ Literal (Bool true) ∷ Literal (Bool false) ∷ Literal (Entity (codes "person") 1) ∷ name_of (Literal Null) ∷ []) ∷ []
+
+-- what a script prints that client 1 runs by itself over an empty database
+abbrev pub printed_over : Outline → List (List Statement) → List ℕ
+printed_over schema script = client_lines (empty_state schema) script
 
 -- lines, each with the line feed behind it
 abbrev pub lines : List (List ℕ) → List ℕ

@@ -1,19 +1,27 @@
 -- What terms stand for. A term is asked once it was found to be in form: elsewhere it stands for null.
-use Rattle.std.specs.Prelude.{ℕ, ◌+◌, List, ◌∷◌, ◌++◌, find, take, drop, Option, Some, None}
+use Rattle.std.specs.Prelude.{ℕ, ◌+◌, if◌then◌else◌, List, [], ◌∷◌, ◌++◌, map, find, take, drop, Option, Some, None}
 use Rattle.std.specs.List.{position_or_len}
 use Rattle.std.specs.Str.{bytes_eq}
-use Rattle.st_values.specs.declared.value.EntityId.{EntityId}
 use Rattle.st_values.specs.declared.value.Value.{Value}
 use Rattle.st_values.specs.declared.value.Value.TheVariants as value
-use Rattle.st_schema.specs.Outline.{Outline, type_named, attribute_called}
-use Rattle.st_schema.specs.declared.attribute.Attribute.{Attribute}
+use Rattle.st_lattice.specs.declared.attribute.Attribute.{Attribute}
+use Rattle.st_lattice.specs.declared.feature.Feature.{Feature}
+use Rattle.st_lattice.specs.declared.feature.Feature.TheVariants as feature
+use Rattle.st_lattice.specs.Outline.{Outline, type_named, attribute}
+use Rattle.st_lattice.specs.Features.{lookup}
 use Rattle.st_query.specs.declared.term.Literal.{Literal}
 use Rattle.st_query.specs.declared.term.Literal.TheVariants as literal
 use Rattle.st_query.specs.declared.term.Term.{Term}
-use Rattle.st_query.specs.declared.term.Term.TheFolds.{fold-Term}
-use Rattle.st_query.specs.declared.term.Term.TheOpen.{Term-F}
 use Rattle.st_query.specs.declared.term.Variable.{Variable}
-use Rattle.st_state.specs.State.{State, value_at}
+use Rattle.st_query.specs.Ways.{Start, Written, Named, Way, way}
+use Rattle.st_state.specs.State.{State, values_at, value_at, turned}
+pub use Rattle.st_meaning.specs.declared.meaning.Meaning.{Meaning}
+pub use Rattle.st_meaning.specs.declared.meaning.Meaning.TheVariants.{Single, Set}
+
+-- the value where there is one; a set is no value
+abbrev pub single : Meaning → Value
+single (Single v) = v
+single (Set _) = value.Null
 
 -- an entity that is written out, where its type is known
 abbrev pub entity_value : Option ℕ → ℕ → Value
@@ -28,13 +36,17 @@ literal_value schema (literal.Bool truth) = value.Bool truth
 literal_value schema (literal.Text text) = value.Text text
 literal_value schema (literal.Entity ty serial) = entity_value (type_named schema ty) serial
 
+-- the variable with a name
+abbrev pub variable_named : List Variable → List ℕ → Option Variable
+variable_named variables name = find (λ variable. bytes_eq variable.name name) variables
+
 -- what a variable is bound to
 abbrev pub bound_to : Option Variable → Value
 bound_to None = value.Null
 bound_to (Some variable) = variable.value
 
 abbrev pub variable_value : List Variable → List ℕ → Value
-variable_value variables name = bound_to (find (λ variable. bytes_eq variable.name name) variables)
+variable_value variables name = bound_to (variable_named variables name)
 
 -- a name bound to a value, anew where it was bound
 abbrev pub bind : List ℕ → Value → List Variable → List Variable
@@ -42,21 +54,61 @@ bind name v variables =
     let place = position_or_len (λ variable. bytes_eq variable.name name) variables in
     take place variables ++ record { name = name; value = v } ∷ drop (place + 1) variables
 
--- the value of an entity's attribute
-abbrev pub attribute_value : State → Option Attribute → EntityId → Value
-attribute_value state None entity = value.Null
-attribute_value state (Some attribute) entity = value_at attribute.number entity state.triples
+-- what a qualified name calls: nothing, an attribute, or the inverse of one
+pub data Called : Type 0 where
+  Nothing : Called
+  Own : Attribute → Called
+  Inverse : Attribute → Called
 
--- a path stands for the value of the entity; over null for null
-abbrev pub path_value : State → List ℕ → Value → Value
-path_value state feature (value.Entity entity) = attribute_value state (attribute_called state.schema feature) entity
-path_value state feature _ = value.Null
+abbrev pub own : Option Attribute → Called
+own None = Nothing
+own (Some a) = Own a
 
-abbrev pub term_step : State → List Variable → Term-F Value → Value
-term_step state variables (Term-F.Literal written) = literal_value state.schema written
-term_step state variables (Term-F.Variable name) = variable_value variables name
-term_step state variables (Term-F.Path feature inner) = path_value state feature inner
+abbrev pub inverse : Option Attribute → Called
+inverse None = Nothing
+inverse (Some a) = Inverse a
+
+abbrev pub called_by : Outline → Option Feature → Called
+called_by schema None = Nothing
+called_by schema (Some (feature.Attribute number)) = own (attribute schema number)
+called_by schema (Some (feature.Inverse number)) = inverse (attribute schema number)
+
+abbrev pub called : Outline → List ℕ → Called
+called schema name = called_by schema (lookup schema name)
+
+-- the value of an entity's attribute, or its set; over null it is null or the empty set
+abbrev pub attribute_value : State → Attribute → Value → Meaning
+attribute_value state a (value.Entity e) = if a.many then Set (values_at a.number e state.triples) else Single (value_at a.number e state.triples)
+attribute_value state a _ = if a.many then Set [] else Single value.Null
+
+-- the entities whose attribute has an entity as its value or in its set; over null there are none
+abbrev pub inverse_value : State → Attribute → Value → Meaning
+inverse_value state a (value.Entity e) = Set (map value.Entity (turned a.number (value.Entity e) state.triples))
+inverse_value state a _ = Set []
+
+-- a feature of a value
+abbrev pub feature_value : State → Called → Value → Meaning
+feature_value state Nothing v = Single value.Null
+feature_value state (Own a) v = attribute_value state a v
+feature_value state (Inverse a) v = inverse_value state a v
+
+-- features of a value, the last one first
+abbrev pub features_value : State → List (List ℕ) → Value → Meaning
+features_value state [] v = Single v
+features_value state (name ∷ names) v = feature_value state (called state.schema name) (single (features_value state names v))
+
+-- what a term begins with
+abbrev pub start_value : State → List Variable → Start → Value
+start_value state variables (Written written) = literal_value state.schema written
+start_value state variables (Named name) = variable_value variables name
+
+abbrev pub way_meaning : State → List Variable → Way → Meaning
+way_meaning state variables w = features_value state w.features (start_value state variables w.start)
 
 -- what a term stands for in a state, with these variables
-unfoldable pub term_value : State → List Variable → Term → Value
-term_value state variables term = fold-Term Value (term_step state variables) term
+unfoldable pub term_meaning : State → List Variable → Term → Meaning
+term_meaning state variables term = way_meaning state variables (way term)
+
+-- the value that a term stands for, where a single value is wanted
+abbrev pub term_value : State → List Variable → Term → Value
+term_value state variables term = single (term_meaning state variables term)

@@ -5,3 +5,4 @@ mod lists;
 mod plain;
 
 pub use plain::Plain;
+pub use st_state::Refusal;

@@ -1,12 +1,14 @@
 //! Triples and entities, kept in order.
-ghost use Rattle.std.specs.Prelude.{◌≡◌, ◌≤◌, length, not, filter, find, IfOk, OnOk, OnErr};
+ghost use Rattle.std.specs.Prelude.{◌≡◌, ◌≤◌, ◌==◌, ◌&&◌, length, not, filter, find, IfOk, OnOk, OnErr};
 ghost use Rattle.std.specs.List.{position_or_len};
 ghost use Rattle.std.specs.Option.{option_copied};
 ghost use Rattle.std.specs.Vec.{vec_len, vec_capacity};
-ghost use Rattle.st_state.specs.State.{entity_before, same_entity, with_entity, is_at, triple_before, with_triple, value_at, value_set};
+ghost use Rattle.st_state.specs.State.{entity_before, same_entity, with_entity, is_at, triple_before, with_triple, value_at, values_at, turned, value_set};
+ghost use Rattle.st_values.specs.Order.{same_value};
 
+use sqlite_items::Items;
 use st_state::Triple;
-use st_values::{Duplicate, EntityId, Value};
+use st_values::{Duplicate, Entities, EntityId, Value, Values, is_before, is_same};
 use std::alloc::{AllocError, Global};
 
 fn entity_before(a: EntityId, b: EntityId) -> bool
@@ -54,7 +56,13 @@ fn is_at(attribute: u16, entity: EntityId, triple: &Triple) -> bool
 fn triple_before(a: &Triple, b: &Triple) -> bool
     ensures { result ≡ triple_before a.now b.now }
 {
-    a.attribute < b.attribute || (a.attribute == b.attribute && entity_before(a.entity, b.entity))
+    if a.attribute != b.attribute {
+        return a.attribute < b.attribute;
+    }
+    if same_entity(a.entity, b.entity) {
+        return is_before(&a.value, &b.value);
+    }
+    entity_before(a.entity, b.entity)
 }
 
 fn place_of_triple(triples: &[Triple], triple: &Triple) -> usize
@@ -101,6 +109,48 @@ pub fn value_at(
         Some(triple) => triple.value.copy(alloc),
         None => Ok(Value::Null),
     }
+}
+
+/// Copies of the values of an attribute of an entity, in order.
+pub fn values_at(
+    alloc: Global,
+    triples: &[Triple],
+    attribute: u16,
+    entity: EntityId,
+) -> Result<Values, AllocError>
+    ensures { IfOk result (λ values. values ≡ values_at attribute entity triples.now) }
+{
+    let mut values = Items::new(alloc);
+    for triple in triples {
+        if is_at(attribute, entity, triple) {
+            values.push(triple.value.copy(alloc)?)?;
+        }
+    }
+    Ok(values)
+}
+
+fn has_value(attribute: u16, value: &Value, triple: &Triple) -> bool
+    ensures { result ≡ ((triple.now.attribute == attribute) && same_value triple.now.value value.now) }
+{
+    triple.attribute == attribute && is_same(&triple.value, value)
+}
+
+/// The entities whose attribute has a value, or has it in its set, in order.
+pub fn turned(
+    alloc: Global,
+    triples: &[Triple],
+    attribute: u16,
+    value: &Value,
+) -> Result<Entities, AllocError>
+    ensures { IfOk result (λ entities. entities ≡ turned attribute value.now triples.now) }
+{
+    let mut entities = Items::new(alloc);
+    for triple in triples {
+        if has_value(attribute, value, triple) {
+            entities.push(triple.entity)?;
+        }
+    }
+    Ok(entities)
 }
 
 fn take_triples(triples: &mut Vec<Triple>, attribute: u16, entity: EntityId)

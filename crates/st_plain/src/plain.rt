@@ -1,10 +1,10 @@
 ghost use Rattle.std.specs.Prelude.{◌≡◌, ◌+◌, ◌<◌, ◌^◌, length, slice_index, IfOk, OnOk, OnErr};
-ghost use Rattle.st_state.specs.State.{empty_state, next_entity, entity_made, attribute_set, value_at};
+ghost use Rattle.st_state.specs.State.{empty_state, next_entity, entity_made, attribute_set, value_at, values_at, turned};
 
 use crate::lists;
-use st_schema::Schema;
+use st_lattice::Schema;
 use st_state::Triple;
-use st_values::{EntityId, Value};
+use st_values::{Entities, EntityId, Value, Values};
 use std::alloc::{AllocError, Global};
 use std::marker::Model;
 
@@ -70,6 +70,30 @@ impl Plain {
         ensures { IfOk result (λ value. value ≡ value_at attribute entity self.now.triples) }
     {
         lists::value_at(alloc, &self.triples, attribute, entity)
+    }
+
+    /// Copies of the values of an attribute of an entity, in order.
+    pub fn members(
+        &self,
+        alloc: Global,
+        entity: EntityId,
+        attribute: u16,
+    ) -> Result<Values, AllocError>
+        ensures { IfOk result (λ values. values ≡ values_at attribute entity self.now.triples) }
+    {
+        lists::values_at(alloc, &self.triples, attribute, entity)
+    }
+
+    /// The entities whose attribute has a value, or has it in its set, in order.
+    pub fn turned(
+        &self,
+        alloc: Global,
+        attribute: u16,
+        value: &Value,
+    ) -> Result<Entities, AllocError>
+        ensures { IfOk result (λ entities. entities ≡ turned attribute value.now self.now.triples) }
+    {
+        lists::turned(alloc, &self.triples, attribute, value)
     }
 
     /// Sets the value of a single-valued attribute of an entity; null where it is to have none.

@@ -1,6 +1,8 @@
 use crate::{Term, Terms};
 use sqlite_items::Items;
+use st_text::Duplicate;
 use st_values::Letters;
+use std::alloc::{AllocError, Global};
 
 /// An attribute's short name and the value that it gets.
 #[derive(Debug, Drop)]
@@ -181,4 +183,135 @@ pub type Statements = Items<Statement>;
 pub struct Transaction {
     /// Its statements, first to last.
     pub statements: Statements,
+}
+
+impl Duplicate for Cell {
+    fn copy(&self, alloc: Global) -> Result<Cell, AllocError> {
+        Ok(Cell {
+            name: self.name.copy(alloc)?,
+            value: self.value.copy(alloc)?,
+        })
+    }
+}
+
+impl Duplicate for Sign {
+    fn copy(&self, _alloc: Global) -> Result<Sign, AllocError> {
+        Ok(*self)
+    }
+}
+
+impl Duplicate for Condition {
+    fn copy(&self, alloc: Global) -> Result<Condition, AllocError> {
+        match self {
+            Condition::Compare { sign, left, right } => Ok(Condition::Compare {
+                sign: *sign,
+                left: left.copy(alloc)?,
+                right: right.copy(alloc)?,
+            }),
+            Condition::Null(term) => Ok(Condition::Null(term.copy(alloc)?)),
+            Condition::NotNull(term) => Ok(Condition::NotNull(term.copy(alloc)?)),
+            Condition::Member { value, set } => Ok(Condition::Member {
+                value: value.copy(alloc)?,
+                set: set.copy(alloc)?,
+            }),
+        }
+    }
+}
+
+impl Duplicate for Key {
+    fn copy(&self, alloc: Global) -> Result<Key, AllocError> {
+        Ok(Key {
+            term: self.term.copy(alloc)?,
+            descending: self.descending,
+        })
+    }
+}
+
+impl Duplicate for Query {
+    fn copy(&self, alloc: Global) -> Result<Query, AllocError> {
+        Ok(Query {
+            var: self.var.copy(alloc)?,
+            ty: self.ty.copy(alloc)?,
+            conditions: self.conditions.copy(alloc)?,
+            keys: self.keys.copy(alloc)?,
+            shown: self.shown.copy(alloc)?,
+        })
+    }
+}
+
+impl Duplicate for Statement {
+    fn copy(&self, alloc: Global) -> Result<Statement, AllocError> {
+        match self {
+            Statement::Make { var, ty, cells } => Ok(Statement::Make {
+                var: var.copy(alloc)?,
+                ty: ty.copy(alloc)?,
+                cells: cells.copy(alloc)?,
+            }),
+            Statement::Set {
+                attribute,
+                target,
+                value,
+            } => Ok(Statement::Set {
+                attribute: attribute.copy(alloc)?,
+                target: target.copy(alloc)?,
+                value: value.copy(alloc)?,
+            }),
+            Statement::Add {
+                attribute,
+                target,
+                value,
+            } => Ok(Statement::Add {
+                attribute: attribute.copy(alloc)?,
+                target: target.copy(alloc)?,
+                value: value.copy(alloc)?,
+            }),
+            Statement::Take {
+                attribute,
+                target,
+                value,
+            } => Ok(Statement::Take {
+                attribute: attribute.copy(alloc)?,
+                target: target.copy(alloc)?,
+                value: value.copy(alloc)?,
+            }),
+            Statement::Delete { target } => Ok(Statement::Delete {
+                target: target.copy(alloc)?,
+            }),
+            Statement::Find {
+                var,
+                ty,
+                key,
+                value,
+            } => Ok(Statement::Find {
+                var: var.copy(alloc)?,
+                ty: ty.copy(alloc)?,
+                key: key.copy(alloc)?,
+                value: value.copy(alloc)?,
+            }),
+            Statement::Ensure { var, ty, cells } => Ok(Statement::Ensure {
+                var: var.copy(alloc)?,
+                ty: ty.copy(alloc)?,
+                cells: cells.copy(alloc)?,
+            }),
+            Statement::Let { var, value } => Ok(Statement::Let {
+                var: var.copy(alloc)?,
+                value: value.copy(alloc)?,
+            }),
+            Statement::Print { terms } => Ok(Statement::Print {
+                terms: terms.copy(alloc)?,
+            }),
+            Statement::ForEach { query } => Ok(Statement::ForEach {
+                query: query.copy(alloc)?,
+            }),
+            Statement::Abort => Ok(Statement::Abort),
+        }
+    }
+}
+
+impl Duplicate for Transaction {
+    fn copy(&self, alloc: Global) -> Result<Transaction, AllocError> {
+        Ok(Transaction {
+            statements: self.statements.copy(alloc)?,
+        })
+    }
 }

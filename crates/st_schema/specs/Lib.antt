@@ -1,3 +1,7 @@
-pub mod Outline
 pub mod Names
-pub mod Thin
+pub mod Written
+pub mod Checks
+pub mod Resolved
+pub mod Meaning
+pub mod Canonical
+pub mod Parts

@@ -1,16 +1,30 @@
-//! Schemas: the types of a database, their attributes and how they are written.
+//! Schemas as text: how a schema is read from forms, checked and printed.
 #![tactic(auto)]
 
-mod attribute;
+#[cfg(test)]
+mod canonical_texts;
+mod checks;
 mod fault;
+mod form;
+mod laws;
 mod names;
-mod schema;
+mod option;
+mod print;
+mod reader;
+mod resolve;
+mod round_trip;
 #[cfg(test)]
 mod tests;
-mod thin;
+#[cfg(test)]
+mod texts;
+mod types;
+mod written;
 
-pub use attribute::{Attribute, Numbers};
-pub use fault::SchemaFault;
+pub use fault::{Counted, SchemaFault};
+pub use form::identifier;
+pub use laws::never_memory;
 pub use names::is_name;
-pub use schema::Schema;
-pub use thin::{identifier, read_schema};
+pub use print::print_schema;
+pub use reader::read_schema;
+pub use round_trip::canonical_reads;
+pub use st_lattice::{Attribute, Feature, Named, Numbers, Schema};

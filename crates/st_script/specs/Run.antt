@@ -1,7 +1,8 @@
 -- A transaction that runs over lists.
-use Rattle.std.specs.Prelude.{◌≡◌, ℕ, ◌+◌, ◌<◌, ◌^◌, List, slice_index}
+use Rattle.std.specs.Prelude.{◌≡◌, ℕ, ◌+◌, ◌<◌, ◌^◌, List, slice_index, Option, Some, None}
 use Rattle.st_query.specs.declared.term.Variable.{Variable}
 use Rattle.st_state.specs.State.{State}
+use Rattle.st_meaning.specs.Terms.{Called, Own}
 use Rattle.st_meaning.specs.Statements.{Present}
 
 -- a state and variables
@@ -15,3 +16,8 @@ IsPresent p state variables = (state ≡ p.state) × (variables ≡ p.variables)
 -- each type has a serial left
 abbrev pub HasRoom : State → Type 0
 HasRoom state = (ty : ℕ) → slice_index state.last ty + 1 < 2 ^ 32
+
+-- the number of the attribute that was called, where one was
+abbrev pub own_number : Called → Option ℕ
+own_number (Own a) = Some a.number
+own_number _ = None

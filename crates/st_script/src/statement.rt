@@ -1,20 +1,24 @@
-ghost use Rattle.std.specs.Prelude.{◌≡◌, ◌≤◌, ◌+◌, ◌<◌, ◌^◌, ◌∷◌, ◌++◌, length, take, drop, map, slice_index, Option, Some, IfOk, OnOk};
-ghost use Rattle.st_schema.specs.declared.attribute.Attribute.{Attribute};
-ghost use Rattle.st_script.specs.Run.{present, IsPresent, HasRoom};
-ghost use Rattle.st_schema.specs.Outline.{attribute_of, attribute_called, type_named};
+ghost use Rattle.std.specs.Prelude.{◌≡◌, ◌≤◌, ◌+◌, ◌<◌, ◌^◌, ◌∷◌, ◌++◌, length, take, drop, map, slice_index, Option, Some, IfOk, IfSome, OnOk};
+ghost use Rattle.st_lattice.specs.declared.attribute.Attribute.{Attribute};
+ghost use Rattle.st_script.specs.Run.{present, IsPresent, HasRoom, own_number};
+ghost use Rattle.st_query.specs.Thin.{IsThinStatement};
+ghost use Rattle.st_lattice.specs.Outline.{type_named};
+ghost use Rattle.st_lattice.specs.Lattice.{attribute_of};
 ghost use Rattle.std.specs.List.{position_or_len};
 ghost use Rattle.std.specs.Vec.{vec_len};
 ghost use Rattle.std.specs.Str.{bytes_eq};
 ghost use Rattle.std.specs.Option.{option_copied, option_map};
-ghost use Rattle.st_meaning.specs.Terms.{bind, term_value};
-ghost use Rattle.st_meaning.specs.Statements.{cell_set, cells_set, makes, sets, does, answers};
+ghost use Rattle.st_meaning.specs.Terms.{Called, own, called, bind, term_value, term_meaning};
+ghost use Rattle.st_meaning.specs.Statements.{cell_set, cells_set, makes, makes_of, sets, printed_meaning, print_tail, does, answers};
 
-use crate::term::{term_value, term_values};
+use crate::answer::print_lines;
+use crate::term::{term_meaning, term_value};
+use sqlite_items::Items;
+use st_lattice::{Attribute, Feature};
 use st_plain::Plain;
 use st_query::{Cell, Statement, Term, Variable};
-use st_schema::Attribute;
 use st_text::{Duplicate, Letters};
-use st_values::{EntityId, Value, Values};
+use st_values::{EntityId, Lines, Value};
 use std::alloc::{AllocError, Global};
 
 fn place_of(variables: &[Variable], name: &[u8]) -> usize
@@ -91,7 +95,9 @@ fn set_cell(
     cell: &Cell,
     value: Value,
 ) -> Result<(), AllocError>
-    ensures { OnOk result (plain.new ≡ cell_set (attribute_of plain.old.schema ty cell.now.name) entity value plain.old) }
+    requires { ty < length plain.old.schema.names }
+    ensures ok { OnOk result (plain.new ≡ cell_set (attribute_of plain.old.schema ty cell.now.name) entity value plain.old) }
+    ensures schema { OnOk result (plain.new.schema ≡ plain.old.schema) }
 {
     match number_of(plain.schema().attribute_of(ty, cell.name.as_slice())) {
         Some(number) => plain.set(entity, number, value),
@@ -106,7 +112,8 @@ fn set_cells(
     cells: &[Cell],
     mut values: Vec<Value>,
 ) -> Result<(), AllocError>
-    requires { vec_len values ≡ length cells.now }
+    requires counts { vec_len values ≡ length cells.now }
+    requires there { ty < length plain.old.schema.names }
     ensures { OnOk result (plain.new ≡ cells_set ty entity cells.now values.items plain.old) }
 {
     for cell in cells {
@@ -126,7 +133,7 @@ fn make_of(
 ) -> Result<(), AllocError>
     requires there { ty < length plain.old.schema.names }
     requires room { slice_index plain.old.last ty + 1 < 2 ^ 32 }
-    ensures { OnOk result (IsPresent (makes (present plain.old variables.old.items) var.now cells.now (Some ty)) plain.new variables.new.items) }
+    ensures { OnOk result (IsPresent (makes_of (present plain.old variables.old.items) var.now cells.now ty) plain.new variables.new.items) }
 {
     let values = cell_values(alloc, plain, variables, cells)?;
     let entity = plain.make(ty)?;
@@ -135,7 +142,8 @@ fn make_of(
 }
 
 fn type_named(plain: &Plain, name: &[u8]) -> Option<u16>
-    ensures { result ≡ type_named plain.now.schema name.now }
+    ensures value { result ≡ type_named plain.now.schema name.now }
+    ensures within { IfSome result (λ ty. ty < length plain.now.schema.names) }
 {
     plain.schema().type_named(name)
 }
@@ -157,14 +165,23 @@ fn make(
     }
 }
 
+/// The number of the attribute that a qualified name calls, where it calls one.
+fn own_number(plain: &Plain, name: &[u8]) -> Option<u16>
+    ensures { result ≡ own_number (called plain.now.schema name.now) }
+{
+    match plain.schema().lookup(name) {
+        Some(Feature::Attribute(number)) => number_of(plain.schema().attribute(number)),
+        _ => None,
+    }
+}
+
 fn set_of(
     plain: &mut Plain,
     number: Option<u16>,
     target: &Value,
     value: Value,
 ) -> Result<(), AllocError>
-    ensures { (attribute : Option Attribute) → number ≡ option_map (λ attribute. attribute.number) attribute →
-        OnOk result (plain.new ≡ sets plain.old attribute target.now value) }
+    ensures { (c : Called) → number ≡ own_number c → OnOk result (plain.new ≡ sets plain.old c target.now value) }
 {
     match (number, target) {
         (Some(number), Value::Entity(entity)) => plain.set(*entity, number, value),
@@ -180,26 +197,27 @@ fn set(
     target: &Term,
     value: &Term,
 ) -> Result<(), AllocError>
-    ensures { OnOk result (plain.new ≡ sets plain.old (attribute_called plain.old.schema feature.now)
+    ensures { OnOk result (plain.new ≡ sets plain.old (called plain.old.schema feature.now)
         (term_value plain.old variables.now target.now) (term_value plain.old variables.now value.now)) }
 {
     let target = term_value(alloc, plain, variables, target)?;
     let value = term_value(alloc, plain, variables, value)?;
-    let number = number_of(plain.schema().attribute_called(feature));
+    let number = own_number(plain, feature);
     set_of(plain, number, &target, value)
 }
 
-/// Runs a statement, which was found to be in form: the values that it answers, if it answers any. Where memory
-/// wants, the statement may have been done in part, and the transaction can only be given up.
+/// Runs a statement `make`, `set` or `print` that no rule refuses: what its lines say behind the turn and the client.
+/// Where memory wants, the statement may have been done in part, and the transaction can only be given up.
 pub fn step(
     alloc: Global,
     plain: &mut Plain,
     variables: &mut Vec<Variable>,
     statement: &Statement,
-) -> Result<Option<Values>, AllocError>
+) -> Result<Lines, AllocError>
     requires room { HasRoom plain.old }
+    requires thin { IsThinStatement statement.now }
     ensures done { OnOk result (IsPresent (does (present plain.old variables.old.items) statement.now) plain.new variables.new.items) }
-    ensures answered { IfOk result (λ found. found ≡ answers (present plain.old variables.old.items) statement.now) }
+    ensures answered { IfOk result (λ lines. lines ≡ answers (present plain.old variables.old.items) statement.now) }
 {
     match statement {
         Statement::Make { var, ty, cells } => {
@@ -211,7 +229,7 @@ pub fn step(
                 ty.as_slice(),
                 cells.as_slice(),
             )?;
-            Ok(None)
+            Ok(Items::new(alloc))
         }
         Statement::Set {
             attribute,
@@ -219,12 +237,9 @@ pub fn step(
             value,
         } => {
             set(alloc, plain, variables, attribute.as_slice(), target, value)?;
-            Ok(None)
+            Ok(Items::new(alloc))
         }
-        Statement::Print { terms } => {
-            let values = term_values(alloc, plain, variables, terms.as_slice())?;
-            Ok(Some(values))
-        }
-        _ => Ok(None),
+        Statement::Print { terms } => print_lines(alloc, plain, variables, terms.as_slice()),
+        _ => Ok(Items::new(alloc)),
     }
 }

@@ -1,12 +1,14 @@
 ghost use Rattle.std.specs.Prelude.{◌≡◌, find, map, IfOk};
 ghost use Rattle.std.specs.Option.{option_copied};
 ghost use Rattle.std.specs.Str.{bytes_eq};
-ghost use Rattle.st_meaning.specs.Terms.{literal_value, entity_value, variable_value, attribute_value, path_value, term_value};
+ghost use Rattle.st_values.specs.declared.value.Value.TheVariants.{Entity};
+ghost use Rattle.st_meaning.specs.Terms.{single, literal_value, entity_value, variable_value, called, own, inverse, attribute_value, inverse_value, feature_value, term_meaning, term_value};
 
 use sqlite_items::Items;
+use st_lattice::{Attribute, Feature, Schema};
+use st_meaning::Meaning;
 use st_plain::Plain;
 use st_query::{Literal, Term, Variable};
-use st_schema::{Attribute, Schema};
 use st_values::{Duplicate, EntityId, Value, Values};
 use std::alloc::{AllocError, Global};
 
@@ -50,39 +52,146 @@ fn variable_value(alloc: Global, variables: &[Variable], name: &[u8]) -> Result<
     }
 }
 
+/// The value of an attribute of an entity, or its set; over null it is null or the empty set.
 fn attribute_value(
     alloc: Global,
     plain: &Plain,
-    attribute: Option<&Attribute>,
-    entity: EntityId,
-) -> Result<Value, AllocError>
-    ensures { IfOk result (λ value. value ≡ attribute_value plain.now (option_copied attribute.entry) entity) }
-{
-    match attribute {
-        Some(attribute) => plain.get(alloc, entity, attribute.number),
-        None => Ok(Value::Null),
-    }
-}
-
-fn path_value(
-    alloc: Global,
-    plain: &Plain,
-    feature: &[u8],
+    attribute: &Attribute,
     value: &Value,
-) -> Result<Value, AllocError>
-    ensures { IfOk result (λ value'. value' ≡ path_value plain.now feature.now value.now) }
+) -> Result<Meaning, AllocError>
+    ensures { IfOk result (λ meaning. meaning ≡ attribute_value plain.now attribute.now value.now) }
 {
     match value {
         Value::Entity(entity) => {
-            let attribute = plain.schema().attribute_called(feature);
-            attribute_value(alloc, plain, attribute, *entity)
+            if attribute.many {
+                Ok(Meaning::Set(plain.members(alloc, *entity, attribute.number)?))
+            } else {
+                Ok(Meaning::Single(plain.get(alloc, *entity, attribute.number)?))
+            }
         }
-        _ => Ok(Value::Null),
+        _ => {
+            if attribute.many {
+                Ok(Meaning::Set(Items::new(alloc)))
+            } else {
+                Ok(Meaning::Single(Value::Null))
+            }
+        }
     }
 }
 
-/// What a term stands for. A name that isn't known stands for null, and so does a path over null.
-#[tactic(auto, unfolding(st_meaning::specs::Terms::term_value))]
+fn entities_as_values(alloc: Global, entities: &[EntityId]) -> Result<Values, AllocError>
+    ensures { IfOk result (λ values. values ≡ map Entity entities.now) }
+{
+    let mut values = Items::new(alloc);
+    for entity in entities {
+        values.push(Value::Entity(*entity))?;
+    }
+    Ok(values)
+}
+
+/// The entities whose attribute has an entity as its value or in its set; over null there are none.
+fn inverse_value(
+    alloc: Global,
+    plain: &Plain,
+    attribute: &Attribute,
+    value: &Value,
+) -> Result<Meaning, AllocError>
+    ensures { IfOk result (λ meaning. meaning ≡ inverse_value plain.now attribute.now value.now) }
+{
+    match value {
+        Value::Entity(_) => {
+            let entities = plain.turned(alloc, attribute.number, value)?;
+            Ok(Meaning::Set(entities_as_values(alloc, entities.as_slice())?))
+        }
+        _ => Ok(Meaning::Set(Items::new(alloc))),
+    }
+}
+
+fn own_value(
+    alloc: Global,
+    plain: &Plain,
+    attribute: Option<&Attribute>,
+    value: &Value,
+) -> Result<Meaning, AllocError>
+    ensures { IfOk result (λ meaning. meaning ≡ feature_value plain.now (own (option_copied attribute.entry)) value.now) }
+{
+    match attribute {
+        Some(attribute) => attribute_value(alloc, plain, attribute, value),
+        None => Ok(Meaning::Single(Value::Null)),
+    }
+}
+
+fn turned_value(
+    alloc: Global,
+    plain: &Plain,
+    attribute: Option<&Attribute>,
+    value: &Value,
+) -> Result<Meaning, AllocError>
+    ensures { IfOk result (λ meaning. meaning ≡ feature_value plain.now (inverse (option_copied attribute.entry)) value.now) }
+{
+    match attribute {
+        Some(attribute) => inverse_value(alloc, plain, attribute, value),
+        None => Ok(Meaning::Single(Value::Null)),
+    }
+}
+
+/// A feature of a value, by its qualified name.
+fn feature_value(
+    alloc: Global,
+    plain: &Plain,
+    name: &[u8],
+    value: &Value,
+) -> Result<Meaning, AllocError>
+    ensures { IfOk result (λ meaning. meaning ≡ feature_value plain.now (called plain.now.schema name.now) value.now) }
+{
+    match plain.schema().lookup(name) {
+        Some(Feature::Attribute(number)) => {
+            own_value(alloc, plain, plain.schema().attribute(number), value)
+        }
+        Some(Feature::Inverse(number)) => {
+            turned_value(alloc, plain, plain.schema().attribute(number), value)
+        }
+        None => Ok(Meaning::Single(Value::Null)),
+    }
+}
+
+fn single(meaning: Meaning) -> Value
+    ensures { result ≡ single meaning }
+{
+    match meaning {
+        Meaning::Single(value) => value,
+        Meaning::Set(_) => Value::Null,
+    }
+}
+
+/// What a term stands for. A name that isn't known stands for null, and so does a path over null,
+/// or for the empty set.
+#[tactic(auto, using(st_meaning::proofs::Values::meaning_of_literal, st_meaning::proofs::Values::meaning_of_variable, st_meaning::proofs::Values::meaning_of_path))]
+pub fn term_meaning(
+    alloc: Global,
+    plain: &Plain,
+    variables: &[Variable],
+    term: &Term,
+) -> Result<Meaning, AllocError>
+    ensures { IfOk result (λ meaning. meaning ≡ term_meaning plain.now variables.now term.now) }
+{
+    match term {
+        Term::Literal(literal) => {
+            let value = literal_value(alloc, plain.schema(), literal)?;
+            Ok(Meaning::Single(value))
+        }
+        Term::Variable(name) => {
+            let value = variable_value(alloc, variables, name.as_slice())?;
+            Ok(Meaning::Single(value))
+        }
+        Term::Path(feature, inner) => {
+            let value = single(term_meaning(alloc, plain, variables, inner.get())?);
+            feature_value(alloc, plain, feature.as_slice(), &value)
+        }
+    }
+}
+
+/// The value that a term stands for, null where it stands for a set.
 pub fn term_value(
     alloc: Global,
     plain: &Plain,
@@ -91,28 +200,5 @@ pub fn term_value(
 ) -> Result<Value, AllocError>
     ensures { IfOk result (λ value. value ≡ term_value plain.now variables.now term.now) }
 {
-    match term {
-        Term::Literal(literal) => literal_value(alloc, plain.schema(), literal),
-        Term::Variable(name) => variable_value(alloc, variables, name.as_slice()),
-        Term::Path(feature, inner) => {
-            let value = term_value(alloc, plain, variables, inner.get())?;
-            path_value(alloc, plain, feature.as_slice(), &value)
-        }
-    }
-}
-
-/// What each of some terms stands for.
-pub fn term_values(
-    alloc: Global,
-    plain: &Plain,
-    variables: &[Variable],
-    terms: &[Term],
-) -> Result<Values, AllocError>
-    ensures { IfOk result (λ values. values ≡ map (term_value plain.now variables.now) terms.now) }
-{
-    let mut values = Items::new(alloc);
-    for term in terms {
-        values.push(term_value(alloc, plain, variables, term)?)?;
-    }
-    Ok(values)
+    Ok(single(term_meaning(alloc, plain, variables, term)?))
 }

@@ -1,6 +1,8 @@
 pub mod Spelling
 pub mod Induction
 pub mod Rebuilding
+pub mod Views
+pub mod Pieces
 pub mod Balance
 pub mod Stops
 pub mod OneAnswer

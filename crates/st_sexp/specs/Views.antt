@@ -1,5 +1,5 @@
 -- What a form is, as one thing or another.
-use Rattle.std.specs.Prelude.{ℕ, Bool, false, List, [], ◌∷◌, Option, Some, None}
+use Rattle.std.specs.Prelude.{ℕ, ℤ, Bool, false, List, [], ◌∷◌, Option, Some, None}
 use Rattle.std.specs.Str.{bytes_eq}
 use Rattle.st_sexp.specs.declared.form.Form.{Form}
 use Rattle.st_sexp.specs.declared.form.Shape.{Shape, out-Shape}
@@ -12,6 +12,14 @@ shape_name _ = None
 -- the letters of a name
 unfoldable pub as_name : Form → Option (List ℕ)
 as_name form = shape_name (out-Shape form.shape)
+
+abbrev pub shape_number : Shape-F Shape Form → Option ℤ
+shape_number (Shape-F.Number number) = Some number
+shape_number _ = None
+
+-- a number
+unfoldable pub as_number : Form → Option ℤ
+as_number form = shape_number (out-Shape form.shape)
 
 abbrev pub shape_list : Shape-F Shape Form → Option (List Form)
 shape_list (Shape-F.List forms) = Some forms

@@ -1,6 +1,6 @@
 ghost use Rattle.std.specs.Prelude.{◌≡◌};
 ghost use Rattle.std.specs.Option.{option_copied, option_map};
-ghost use Rattle.st_sexp.specs.Views.{as_name, as_list, as_pair, as_front, as_four, is_word};
+ghost use Rattle.st_sexp.specs.Views.{as_name, as_number, as_list, as_pair, as_front, as_four, is_word};
 
 use crate::{Form, Shape};
 use st_text::Letters;
@@ -12,6 +12,17 @@ pub fn as_name(form: &Form) -> Option<&Letters>
 {
     match &form.shape {
         Shape::Name(letters) => Some(letters),
+        _ => None,
+    }
+}
+
+/// A number.
+#[tactic(auto, unfolding(crate::specs::Views::as_number))]
+pub fn as_number(form: &Form) -> Option<i64>
+    ensures { result ≡ as_number form.now }
+{
+    match form.shape {
+        Shape::Number(number) => Some(number),
         _ => None,
     }
 }

@@ -1,0 +1,8 @@
+pub mod Orders
+pub mod Tests
+pub mod Kept
+pub mod Changed
+pub mod Set
+pub mod Made
+pub mod Members
+pub mod Turned

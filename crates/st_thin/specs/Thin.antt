@@ -1,11 +1,13 @@
--- The thin form of a transaction, and of a whole input.
-use Rattle.std.specs.Prelude.{ℕ, ◌&&◌, nat_le, if◌then◌else◌, List, [], ◌∷◌, length, map, Option, Some, None, codes}
+-- The thin form of a transaction: which statements its forms are.
+use Rattle.std.specs.Prelude.{ℕ, Bool, true, not, ◌&&◌, nat_le, if◌then◌else◌, List, [], ◌∷◌, length, map, Option, Some, None, codes}
+use Rattle.std.specs.List.{list_any}
 use Rattle.std.specs.Option.{option_and_then, option_map}
+use Rattle.std.specs.Str.{bytes_eq}
 use Rattle.st_sexp.specs.declared.form.Form.{Form}
 use Rattle.st_sexp.specs.declared.form.Shape.{Shape, out-Shape}
 use Rattle.st_sexp.specs.declared.form.Shape.TheOpen.{Shape-F}
 use Rattle.st_sexp.specs.Views.{as_name, as_list, as_pair, as_front, is_word}
-use Rattle.st_schema.specs.Thin.{only_if, identifier, all_differ}
+use Rattle.st_schema.specs.Written.{only_if, identifier}
 use Rattle.st_query.specs.declared.term.Literal.TheVariants as literal
 use Rattle.st_query.specs.declared.term.Term.{Term}
 use Rattle.st_query.specs.declared.term.Term.TheVariants as term
@@ -43,10 +45,19 @@ abbrev pub thin_cells : List Form → Option (List Cell)
 thin_cells [] = Some []
 thin_cells (form ∷ forms) = option_and_then (λ cell. option_map (λ more. cell ∷ more) (thin_cells forms)) (thin_cell form)
 
--- cells whose names differ; a type in the thin form has eight attributes at most
+-- whether a name is among some
+abbrev pub is_named : List (List ℕ) → List ℕ → Bool
+is_named names name = list_any (λ other. bytes_eq other name) names
+
+-- whether names differ from each other
+abbrev pub all_differ : List (List ℕ) → Bool
+all_differ [] = true
+all_differ (name ∷ names) = not (is_named names name) && all_differ names
+
+-- cells whose names differ; a schema has 256 attributes at most
 abbrev pub differing_cells : List Form → Option (List Cell)
 differing_cells forms =
-    if nat_le (length forms) 8 then option_and_then (λ cells. only_if (all_differ (map (λ cell. cell.name) cells)) cells) (thin_cells forms) else None
+    if nat_le (length forms) 256 then option_and_then (λ cells. only_if (all_differ (map (λ cell. cell.name) cells)) cells) (thin_cells forms) else None
 
 -- make VAR TYPE (ATTRIBUTE TERM) ..
 abbrev pub thin_make : List Form → Option Statement
@@ -91,8 +102,3 @@ abbrev pub thin_transaction : Form → Option (List Statement)
 thin_transaction form =
     option_and_then (λ p. if is_word (p.0) (codes "with-transaction") && nat_le (length (p.1)) 4096 then thin_statements (p.1) else None)
     (option_and_then as_front (as_list form))
-
--- the forms of a program: those of its schema, and its transaction
-abbrev pub as_program : List Form → Option (List Form × Form)
-as_program (a ∷ b ∷ c ∷ []) = Some (a ∷ b ∷ [], c)
-as_program _ = None

@@ -1,7 +1,12 @@
-//! The thin form of an input: a schema of one type, and one transaction of `make`, `set` and `print`.
+//! The thin form of a script: one transaction of `make`, `set` and `print` that fits a schema.
 #![tactic(auto)]
 
+mod bound;
 mod check;
+mod feature;
+mod program;
+mod split;
 mod thin;
 
-pub use check::thin_program;
+pub use program::thin_program;
+pub use split::{schema_part, script_part};

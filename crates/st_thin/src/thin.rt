@@ -1,9 +1,6 @@
 ghost use Rattle.std.specs.Prelude.{◌≡◌, ◌≤◌, length, map, IfOk, IfSome};
-ghost use Rattle.std.specs.List.{list_any};
 ghost use Rattle.std.specs.Option.{option_map};
-ghost use Rattle.std.specs.Str.{bytes_eq};
-ghost use Rattle.st_schema.specs.Thin.{all_differ};
-ghost use Rattle.st_thin.specs.Thin.{thin_path, thin_term, thin_terms, thin_cell, thin_cells, differing_cells, thin_make, thin_target, thin_set, thin_print, by_keyword, thin_statement, thin_statements, thin_transaction};
+ghost use Rattle.st_thin.specs.Thin.{is_named, all_differ, thin_path, thin_term, thin_terms, thin_cell, thin_cells, differing_cells, thin_make, thin_target, thin_set, thin_print, by_keyword, thin_statement, thin_statements, thin_transaction};
 
 use sqlite_items::{Boxed, Items};
 use st_query::{Cell, Cells, Literal, Statement, Statements, Term, Terms};
@@ -15,8 +12,8 @@ use std::alloc::{AllocError, Global};
 /// How many statements a transaction has at most.
 const MAX_STATEMENTS: usize = 4096;
 
-/// How many attributes a type has at most.
-const MAX_CELLS: usize = 8;
+/// How many attributes a schema has at most.
+const MAX_CELLS: usize = 256;
 
 fn thin_path(alloc: Global, feature: &Form, var: &Form) -> Result<Option<Term>, AllocError>
     ensures { IfOk result (λ found. found ≡ thin_path (feature.now, var.now)) }
@@ -94,7 +91,7 @@ fn thin_cells(alloc: Global, forms: &[Form]) -> Result<Option<Cells>, AllocError
 }
 
 fn is_named(cells: &[Cell], name: &[u8]) -> bool
-    ensures { result ≡ list_any (λ other. bytes_eq other name.now) (map (λ cell. cell.name) cells.now) }
+    ensures { result ≡ is_named (map (λ cell. cell.name) cells.now) name.now }
 {
     match cells {
         [] => false,
@@ -235,7 +232,7 @@ fn thin_statements(alloc: Global, forms: &[Form]) -> Result<Option<Statements>, 
 }
 
 /// The statements of a transaction in the thin form.
-pub fn thin_transaction(alloc: Global, form: &Form) -> Result<Option<Statements>, AllocError>
+pub(crate) fn thin_transaction(alloc: Global, form: &Form) -> Result<Option<Statements>, AllocError>
     ensures value { IfOk result (λ found. found ≡ thin_transaction form.now) }
     ensures few { IfOk result (λ found. IfSome found (λ statements. length statements ≤ 4096)) }
 {

@@ -11,7 +11,7 @@ use Rattle.std.proofs.lemmas.Str.Ascii.{IsAscii-nil, IsAscii-cons}
 use Rattle.std.proofs.lemmas.Str.Parse.{IsNumeralModel, numerals_by_value, tells_all_ascii_digits, parse_signed_minus, parse_signed_plain}
 use Rattle.st_token.specs.Scan.{begins_number, number_of}
 
-abbrev IsDigits : List ℕ → Type 0
+abbrev pub IsDigits : List ℕ → Type 0
 IsDigits bs = all_ascii_digits bs ≡ true
 
 digits : IsNumeralModel IsDigits (digits_value 10)
@@ -34,7 +34,7 @@ minus_none b bs e misfit =
     rw (cond-true (b == 45) _ _ (eq-eqb b 45 e)) (cond-false (all_ascii_digits bs && leb (digits_value 10 bs) (2 ^ 63)) _ _ (false_from_ne_true _ (λ t. let both = and_parts _ _ t in misfit both.0 (leb-true _ _ both.1))))
 
 -- digits alone
-plain_some : (b : ℕ) (bs : List ℕ) → (b ≡ 45 → ⊥) → IsDigits (b ∷ bs) → digits_value 10 (b ∷ bs) < 2 ^ 63 → number_of (b ∷ bs) ≡ Some (pos (digits_value 10 (b ∷ bs)))
+pub plain_some : (b : ℕ) (bs : List ℕ) → (b ≡ 45 → ⊥) → IsDigits (b ∷ bs) → digits_value 10 (b ∷ bs) < 2 ^ 63 → number_of (b ∷ bs) ≡ Some (pos (digits_value 10 (b ∷ bs)))
 plain_some b bs e h l =
     rw (cond-false (b == 45) _ _ (ne_eqb b 45 e)) (cond-true (all_ascii_digits (b ∷ bs) && ltb (digits_value 10 (b ∷ bs)) (2 ^ 63)) _ _ (and_from _ _ h (lt-ltb _ _ l)))
 

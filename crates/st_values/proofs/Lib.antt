@@ -1,2 +1,5 @@
 pub mod Escapes
 pub mod Kept
+pub mod Total
+pub mod Placing
+pub mod Exact

@@ -1,1 +1,3 @@
 pub mod Print
+pub mod Order
+pub mod Arranged

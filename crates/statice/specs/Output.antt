@@ -2,9 +2,8 @@
 use Rattle.std.specs.Prelude.{◌≡◌, ℕ, ◌⊎◌, List, [], ◌∷◌, ◌++◌, take, codes, Option}
 use Rattle.std.specs.Io.KnownBytes.{Appends}
 use Rattle.st_edge.specs.Faults.{Rose}
-use Rattle.st_meaning.specs.Lines.{output_of}
-use Rattle.st_thin.specs.Check.{Program}
-use Rattle.statice.specs.Form.{IsThin}
+use Rattle.st_meaning.specs.Lines.{unrefused_output}
+use Rattle.statice.specs.Form.{Program, IsThin}
 
 -- a line that tells a fault
 abbrev pub fault_line : List ℕ → List ℕ
@@ -12,7 +11,7 @@ fault_line what = codes "fault " ++ what ++ 10 ∷ []
 
 -- what a program of the thin form prints
 abbrev pub printed_by : Program → List ℕ
-printed_by program = output_of (program.0) (program.1)
+printed_by program = unrefused_output (program.0) (program.1)
 
 -- how much a sink took, by what it had before and after and its counts of faults: all of a text, or a front of it
 -- where its count rose

@@ -1,35 +1,62 @@
 -- What an input is refused for, and the line that tells it.
-use Rattle.std.specs.Prelude.{◌≡◌, ℕ, List, ◌∷◌, ◌++◌, codes, Option, Some, None, Result, Ok, Err}
+use Rattle.std.specs.Prelude.{◌≡◌, ℕ, List, [], ◌∷◌, ◌++◌, flat_map, codes, Option, Some, None, Result, Ok, Err}
 use Rattle.std.specs.Option.{option_map}
 use Rattle.std.specs.Fmt.{decimal}
 use Rattle.st_token.specs.declared.fault.SexpFault.{SexpFault}
-use Rattle.st_token.specs.declared.fault.SexpFault.TheVariants.{Unclosed, Stray, BadNumber, TooDeep, NotUtf8, Memory}
+use Rattle.st_token.specs.declared.fault.SexpFault.TheVariants as text
 use Rattle.st_sexp.specs.declared.form.Form.{Form}
 use Rattle.st_sexp.specs.Reading.{Due}
-use Rattle.st_thin.specs.Check.{Program, thin_program}
+use Rattle.st_schema.specs.declared.fault.Counted.{Counted}
+use Rattle.st_schema.specs.declared.fault.Counted.TheVariants.{Types, Attributes}
+use Rattle.st_schema.specs.declared.fault.SchemaFault.{SchemaFault}
+use Rattle.st_schema.specs.declared.fault.SchemaFault.TheVariants as schema
+use Rattle.st_schema.specs.Written.{Reading}
+use Rattle.statice.specs.Form.{Program, program_in}
 use Rattle.statice.specs.Output.{fault_line}
 
 -- the number of a text's fault, and its place; want of memory is no fault of the text
 abbrev pub text_fault : SexpFault → Option (ℕ × ℕ)
-text_fault (Unclosed place) = Some (1, place)
-text_fault (Stray place) = Some (2, place)
-text_fault (BadNumber place) = Some (3, place)
-text_fault (TooDeep place) = Some (4, place)
-text_fault (NotUtf8 place) = Some (5, place)
-text_fault Memory = None
+text_fault (text.Unclosed place) = Some (1, place)
+text_fault (text.Stray place) = Some (2, place)
+text_fault (text.BadNumber place) = Some (3, place)
+text_fault (text.TooDeep place) = Some (4, place)
+text_fault (text.NotUtf8 place) = Some (5, place)
+text_fault text.Memory = None
 
 -- the line of a text's fault, from its number and its place
 abbrev pub text_line : ℕ × ℕ → List ℕ
 text_line numbers = fault_line (codes "text " ++ decimal (numbers.0) ++ 32 ∷ decimal (numbers.1))
 
--- the line of what is no program; none of a program
-abbrev pub unless_program : Option Program → Option (List ℕ)
-unless_program None = Some (fault_line (codes "later"))
-unless_program (Some program) = None
+-- what there are too many of
+abbrev pub counted_word : Counted → List ℕ
+counted_word Types = codes "types"
+counted_word Attributes = codes "attributes"
+
+-- the number of a schema's fault, and its fields as they are printed; want of memory is no fault of the schema
+abbrev pub schema_fault : SchemaFault → Option (ℕ × List (List ℕ))
+schema_fault (schema.Form place) = Some (1, decimal place ∷ [])
+schema_fault (schema.Repeated name) = Some (2, name ∷ [])
+schema_fault (schema.UnknownParent name) = Some (3, name ∷ [])
+schema_fault (schema.UnknownType name) = Some (4, name ∷ [])
+schema_fault (schema.AmbiguousName ty name) = Some (5, ty ∷ name ∷ [])
+schema_fault (schema.RowTooWide ty width) = Some (6, ty ∷ decimal width ∷ [])
+schema_fault (schema.TooMany what count) = Some (7, counted_word what ∷ decimal count ∷ [])
+schema_fault (schema.BadOption place) = Some (8, decimal place ∷ [])
+schema_fault schema.Memory = None
+
+-- the line of a schema's fault, from its number and its fields, each behind a space
+abbrev pub schema_line : ℕ × List (List ℕ) → List ℕ
+schema_line parts = fault_line (codes "schema " ++ decimal (parts.0) ++ flat_map (λ field. 32 ∷ field) (parts.1))
+
+-- the line for what forms are: that of the schema's fault, or that of a script out of form; none of a program
+abbrev pub line_of : Reading (Option Program) → Option (List ℕ)
+line_of (Err fault) = option_map schema_line (schema_fault fault)
+line_of (Ok None) = Some (fault_line (codes "later"))
+line_of (Ok (Some program)) = None
 
 -- the line that forms are refused with; none where they are a program of the thin form
 abbrev pub forms_line : List Form → Option (List ℕ)
-forms_line forms = unless_program (thin_program forms)
+forms_line forms = line_of (program_in forms)
 
 -- the line that is due for what a text is read as: that of its fault, or of its forms
 abbrev pub refusal_of : Result (List Form) SexpFault → Option (List ℕ)

@@ -1,21 +1,23 @@
 ghost use Rattle.std.specs.Prelude.{◌≡◌, ◌≢◌, ◌<◌, ◌≤◌, ◌++◌, ◌⊎◌, [], ◌∷◌, ℕ, List, true, false, length, take, codes, Some, Err, IfSome};
+ghost use Rattle.std.specs.List.{All};
 ghost use Rattle.std.specs.Io.KnownBytes.{Appends, Consumes};
 ghost use Rattle.st_edge.specs.Faults.{Rose};
-ghost use Rattle.st_meaning.specs.Lines.{output_of};
-ghost use Rattle.st_thin.specs.Check.{Program};
-ghost use Rattle.statice.specs.Form.{IsThin};
+ghost use Rattle.st_query.specs.Thin.{IsThinStatement};
+ghost use Rattle.st_meaning.specs.Lines.{unrefused_output};
+ghost use Rattle.statice.specs.Form.{Program, IsThin};
 ghost use Rattle.statice.specs.Output.{fault_line, printed_by, Takes, IsFront};
-ghost use Rattle.statice.specs.Refusal.{refusal_of, IsRefused, IsRefusal};
+ghost use Rattle.statice.specs.Refusal.{line_of, refusal_of, IsRefused, IsRefusal};
 ghost use Rattle.statice.specs.Words.{is_try};
 
 use crate::input::{InputFault, read_input};
 use crate::program::{Found, program_of};
-use crate::refusal::fault_line;
+use crate::refusal::{schema_fault_line, text_fault_line};
 use crate::run::{RunFault, run};
 use crate::words::is_try;
 use st_edge::{Disk, Failed, Sink, Source, write_all};
+use st_lattice::Schema;
 use st_query::Statement;
-use st_schema::Schema;
+use st_schema::SchemaFault;
 use st_sexp::SexpFault;
 use std::alloc::Global;
 
@@ -43,7 +45,22 @@ fn refuse_text<K: Sink>(alloc: Global, fault: SexpFault, sink: &mut K) -> Status
         Takes (K.taken sink.old) (K.taken sink.new) (K.faults sink.old) (K.faults sink.new) (fault_line (codes "memory")) }
     ensures never_falls { K.faults sink.old ≤ K.faults sink.new }
 {
-    match fault_line(alloc, fault) {
+    match text_fault_line(alloc, fault) {
+        Ok(line) => refuse(sink, line.as_slice(), 3),
+        Err(_) => refuse(sink, b"fault memory\n", 8),
+    }
+}
+
+/// Writes the line of a schema's fault, or that of want of memory.
+fn refuse_schema<K: Sink>(alloc: Global, fault: SchemaFault, sink: &mut K) -> Status
+    ensures known { (result ≡ 3) ⊎ (result ≡ 8) }
+    ensures refused { result ≡ 3 → (line : List ℕ) × (line_of (Err fault) ≡ Some line)
+        × Takes (K.taken sink.old) (K.taken sink.new) (K.faults sink.old) (K.faults sink.new) line }
+    ensures memory { result ≡ 8 →
+        Takes (K.taken sink.old) (K.taken sink.new) (K.faults sink.old) (K.faults sink.new) (fault_line (codes "memory")) }
+    ensures never_falls { K.faults sink.old ≤ K.faults sink.new }
+{
+    match schema_fault_line(alloc, fault) {
         Ok(line) => refuse(sink, line.as_slice(), 3),
         Err(_) => refuse(sink, b"fault memory\n", 8),
     }
@@ -56,13 +73,14 @@ fn run_program<K: Sink>(
     statements: &[Statement],
     sink: &mut K,
 ) -> Status
-    requires { length statements.now ≤ 4096 }
+    requires few { length statements.now ≤ 4096 }
+    requires thin { All IsThinStatement statements.now }
     ensures known { (result ≡ 0) ⊎ (result ≡ 7) ⊎ (result ≡ 8) }
-    ensures answered { result ≡ 0 → Appends (K.taken sink.old) (K.taken sink.new) (output_of schema statements.now) }
-    ensures cut { result ≡ 7 → (n : ℕ) × Appends (K.taken sink.old) (K.taken sink.new) (take n (output_of schema statements.now)) }
+    ensures answered { result ≡ 0 → Appends (K.taken sink.old) (K.taken sink.new) (unrefused_output schema statements.now) }
+    ensures cut { result ≡ 7 → (n : ℕ) × Appends (K.taken sink.old) (K.taken sink.new) (take n (unrefused_output schema statements.now)) }
     ensures sink { result ≡ 7 → Rose (K.faults sink.old) (K.faults sink.new) }
     ensures memory { result ≡ 8 → (n : ℕ) × Takes (K.taken sink.old) (K.taken sink.new) (K.faults sink.old) (K.faults sink.new)
-        (take n (output_of schema statements.now) ++ fault_line (codes "memory")) }
+        (take n (unrefused_output schema statements.now) ++ fault_line (codes "memory")) }
     ensures never_falls { K.faults sink.old ≤ K.faults sink.new }
 {
     match run(alloc, schema, statements, sink) {
@@ -96,6 +114,7 @@ fn run_input<K: Sink>(alloc: Global, input: &[u8], sink: &mut K) -> Status
             sink,
         ),
         Ok(Found::TextFault(fault)) => refuse_text(alloc, fault, sink),
+        Ok(Found::SchemaFault(fault)) => refuse_schema(alloc, fault, sink),
         Ok(Found::Later) => refuse(sink, b"fault later\n", 3),
     }
 }
@@ -138,10 +157,11 @@ fn try_input<S: Source, K: Sink>(alloc: Global, source: &mut S, sink: &mut K) ->
 /// makes no call on the disk, which comes back as it was handed in.
 ///
 /// The status is 0 where the transaction has run and its lines are written; 2 where the words are no command's, and
-/// then the source is not read; 3 where the input is no text forms or not in the thin form; 6 where the source failed, 7
-/// where the sink failed; 8 where memory wants; 9 where the input is longer than 1,048,576 bytes. All but 0 and 7 come
-/// with a line `fault ..` if the sink takes it; for an input that is no text forms it is `fault text N PLACE`, its first
-/// fault's number and place in bytes.
+/// then the source is not read; 3 where the input is no text forms, begins with no schema, or has a script that is not
+/// in the thin form; 6 where the source failed, 7 where the sink failed; 8 where memory wants; 9 where the input is
+/// longer than 1,048,576 bytes. All but 0 and 7 come with a line `fault ..` if the sink takes it. For an input that is
+/// no text forms it is `fault text N PLACE`, its first fault's number and place in bytes; for one that begins with no
+/// schema `fault schema N FIELDS`, its first fault's number and fields.
 pub fn statice<D: Disk, S: Source, K: Sink>(
     alloc: Global,
     words: &[String],
@@ -165,8 +185,8 @@ pub fn statice<D: Disk, S: Source, K: Sink>(
     ensures answered { result.0 ≡ 0 → IfSome (S.left source.old) (λ input. (program : Program) × IsThin input program
         × Appends (K.taken sink.old) (K.taken sink.new) (printed_by program)) }
 
-    // 3: the input is no text forms, or no program of the thin form, and the sink took the line that is due for it.
-    // The line is one of these whatever the source tells.
+    // 3: the input is no text forms, begins with no schema, or has a script out of form, and the sink took the line that
+    // is due for it. The line is one of these whatever the source tells.
     ensures refused { result.0 ≡ 3 → IfSome (S.left source.old) (λ input. (line : List ℕ) × IsRefused input line
         × Takes (K.taken sink.old) (K.taken sink.new) (K.faults sink.old) (K.faults sink.new) line) }
     ensures refused_line { result.0 ≡ 3 → (line : List ℕ) × IsRefusal line

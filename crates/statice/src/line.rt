@@ -1,68 +1,67 @@
-ghost use Rattle.std.specs.Prelude.{◌≡◌, [], ◌∷◌, ◌++◌, flat_map, codes, IfOk, OnOk};
+ghost use Rattle.std.specs.Prelude.{◌≡◌, [], ◌∷◌, ◌++◌, flat_map, IfOk, OnOk};
 ghost use Rattle.std.specs.Fmt.{decimal};
-ghost use Rattle.st_values.specs.Print.{printed};
-ghost use Rattle.st_meaning.specs.Lines.{line, print_tail, answer_line, commit_line};
+ghost use Rattle.st_meaning.specs.Lines.{line, commit_line};
 
 use itoa::Buffer;
 use st_text::Letters;
-use st_values::{Value, Values, push_value};
 use std::alloc::{AllocError, Global};
 
-/// Begins a line: the turn, client 1 and its first transaction.
-fn begin_line(alloc: Global, turn: u64) -> Result<Letters, AllocError>
-    ensures { IfOk result (λ text. text ≡ decimal turn ++ codes " 1.1 ") }
+fn push_number(into: &mut Letters, number: u64) -> Result<(), AllocError>
+    ensures { OnOk result (into.new ≡ into.old ++ decimal number) }
 {
     let mut buffer = Buffer::new();
-    let mut text = Letters::from_text(alloc, buffer.format(turn))?;
-    text.push_str(" 1.1 ")?;
-    Ok(text)
+    into.push_str(buffer.format(number))
 }
 
-fn push_values(into: &mut Letters, names: &[Letters], values: &[Value]) -> Result<(), AllocError>
-    ensures { OnOk result (into.new ≡ into.old ++ flat_map (λ v. 32 ∷ printed names.now v) values.now) }
+fn push_signed(into: &mut Letters, sign: &str, number: u64) -> Result<(), AllocError>
+    ensures { OnOk result (into.new ≡ into.old ++ sign.now ++ decimal number) }
 {
-    for value in values {
-        into.push_str(" ")?;
-        push_value(into, value, names)?;
-    }
-    Ok(())
+    into.push_str(sign)?;
+    push_number(into, number)
 }
 
-fn print_line(
-    alloc: Global,
-    names: &[Letters],
+fn push_rest(into: &mut Letters, tail: &Letters) -> Result<(), AllocError>
+    ensures { OnOk result (into.new ≡ into.old ++ 32 ∷ tail.now ++ 10 ∷ []) }
+{
+    into.push_str(" ")?;
+    into.push_str(tail.as_str())?;
+    into.push_str("\n")
+}
+
+/// Adds a line: the turn, the client, the number of its transaction, and what happened.
+fn push_line(
+    into: &mut Letters,
     turn: u64,
-    values: &[Value],
-) -> Result<Letters, AllocError>
-    ensures { IfOk result (λ text. text ≡ line turn (print_tail names.now values.now)) }
+    client: u64,
+    transaction: u64,
+    tail: &Letters,
+) -> Result<(), AllocError>
+    ensures { OnOk result (into.new ≡ into.old ++ line turn client transaction tail.now) }
 {
-    let mut text = begin_line(alloc, turn)?;
-    text.push_str("=")?;
-    push_values(&mut text, names, values)?;
-    text.push_str("\n")?;
-    Ok(text)
+    push_number(into, turn)?;
+    push_signed(into, " ", client)?;
+    push_signed(into, ".", transaction)?;
+    push_rest(into, tail)
 }
 
-/// The line of a turn, empty where its statement answers nothing.
-pub fn answer_line(
-    alloc: Global,
-    names: &[Letters],
-    turn: u64,
-    answered: &Option<Values>,
-) -> Result<Letters, AllocError>
-    ensures { IfOk result (λ text. text ≡ answer_line names.now turn answered.now) }
+/// The lines of what a statement answers in its turn, in client 1's first transaction.
+pub fn answer_lines(alloc: Global, turn: u64, tails: &[Letters]) -> Result<Letters, AllocError>
+    ensures { IfOk result (λ text. text ≡ flat_map (line turn 1 1) tails.now) }
 {
-    match answered {
-        Some(values) => print_line(alloc, names, turn, values.as_slice()),
-        None => Ok(Letters::new(alloc)),
+    let mut text = Letters::new(alloc);
+    for tail in tails {
+        push_line(&mut text, turn, 1, 1, tail)?;
     }
+    Ok(text)
 }
 
 /// The line of the first commit.
 pub fn commit_line(alloc: Global, turn: u64) -> Result<Letters, AllocError>
     ensures { IfOk result (λ text. text ≡ commit_line turn) }
 {
-    let mut text = begin_line(alloc, turn)?;
-    text.push_str("commit 1\n")?;
+    let mut tail = Letters::from_text(alloc, "commit ")?;
+    push_number(&mut tail, 1)?;
+    let mut text = Letters::new(alloc);
+    push_line(&mut text, turn, 1, 1, &tail)?;
     Ok(text)
 }

@@ -1,8 +1,8 @@
 ghost use Rattle.std.specs.Prelude.{◌≡◌, ◌⊎◌, ℕ, List};
-ghost use Rattle.st_thin.specs.Check.{Program};
-ghost use Rattle.statice.specs.Form.{IsThin, IsNotThin};
+ghost use Rattle.statice.specs.Form.{Program, IsThin, IsNotThin};
 ghost use Rattle.statice.specs.Refusal.{IsRefused};
 
+use st_schema::never_memory;
 use st_sexp::one_answer;
 
 /// Each input is a program of the thin form or is refused, and never both. It is one program at most, and is refused
@@ -15,4 +15,5 @@ pub fn one_outcome()
     ensures one_line { (input a b : List ℕ) → IsRefused input a → IsRefused input b → a ≡ b }
 {
     one_answer();
+    never_memory();
 }

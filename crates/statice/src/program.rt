@@ -1,10 +1,11 @@
 ghost use Rattle.std.specs.Prelude.{◌≤◌, length, IfOk};
 ghost use Rattle.statice.specs.Found.{IsFound, IsFoundIn};
 
+use st_lattice::Schema;
 use st_query::Statements;
-use st_schema::Schema;
+use st_schema::{SchemaFault, read_schema};
 use st_sexp::{Form, SexpFault, read};
-use st_thin::thin_program;
+use st_thin::{schema_part, script_part, thin_program};
 use std::alloc::{AllocError, Global};
 
 /// What an input is.
@@ -14,7 +15,9 @@ pub enum Found {
     Program(Schema, Statements),
     /// No text forms: their first fault, which is never want of memory.
     TextFault(SexpFault),
-    /// Text forms that are no program of the thin form.
+    /// Text forms that begin with no schema: its first fault, which is never want of memory.
+    SchemaFault(SchemaFault),
+    /// A schema, and a script that is not in the thin form.
     Later,
 }
 
@@ -22,9 +25,13 @@ pub enum Found {
 fn found_in(alloc: Global, forms: &[Form]) -> Result<Found, AllocError>
     ensures { IfOk result (IsFoundIn forms.now) }
 {
-    match thin_program(alloc, forms)? {
-        Some((schema, statements)) => Ok(Found::Program(schema, statements)),
-        None => Ok(Found::Later),
+    match read_schema(alloc, schema_part(forms)) {
+        Ok(schema) => match thin_program(alloc, &schema, script_part(forms))? {
+            Some(statements) => Ok(Found::Program(schema, statements)),
+            None => Ok(Found::Later),
+        },
+        Err(SchemaFault::Memory) => Err(AllocError),
+        Err(fault) => Ok(Found::SchemaFault(fault)),
     }
 }
 

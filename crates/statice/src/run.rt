@@ -1,19 +1,19 @@
 ghost use Rattle.std.specs.Prelude.{◌≡◌, ◌+◌, ◌<◌, ◌≤◌, ℕ, List, length, take, IfOk, IsErrOf, OnOk, OnErr};
+ghost use Rattle.std.specs.List.{All};
 ghost use Rattle.std.specs.Io.KnownBytes.{Appends};
 ghost use Rattle.st_edge.specs.Faults.{Rose};
-ghost use Rattle.st_meaning.specs.Lines.{answer_line, output_of};
-ghost use Rattle.st_meaning.specs.Statements.{does, answers};
+ghost use Rattle.st_meaning.specs.Lines.{turn_lines, unrefused_output};
+ghost use Rattle.st_meaning.specs.Statements.{does};
 ghost use Rattle.st_script.specs.Run.{present, IsPresent, HasRoom};
+ghost use Rattle.st_query.specs.Thin.{IsThinStatement};
 ghost use Rattle.statice.specs.declared.run.RunFault.TheVariants.{Memory};
 
-use crate::line::{answer_line, commit_line};
-use sqlite_items::Items;
+use crate::line::{answer_lines, commit_line};
 use st_edge::{Failed, Sink, write_all};
+use st_lattice::Schema;
 use st_plain::Plain;
 use st_query::{Statement, Variable};
-use st_schema::Schema;
 use st_script::step;
-use st_text::{Duplicate, Letters};
 use std::alloc::{AllocError, AllocFailed, Global};
 
 /// Why a transaction was not run to its end.
@@ -40,16 +40,6 @@ impl<T: Drop> From<AllocFailed<T>> for RunFault {
     }
 }
 
-fn copy_names(alloc: Global, schema: &Schema) -> Result<Items<Letters>, AllocError>
-    ensures { IfOk result (λ names. names ≡ schema.now.names) }
-{
-    let mut names = Items::new(alloc);
-    for name in schema.type_names() {
-        names.push(name.copy(alloc)?)?;
-    }
-    Ok(names)
-}
-
 /// Writes a line, all of it or a front.
 fn print<K: Sink>(sink: &mut K, text: &[u8]) -> Result<(), RunFault>
     ensures ok { OnOk result (Appends (K.taken sink.old) (K.taken sink.new) text.now) }
@@ -67,7 +57,6 @@ fn print<K: Sink>(sink: &mut K, text: &[u8]) -> Result<(), RunFault>
 /// Runs one statement in its turn, and writes its line where it answers something.
 fn take_turn<K: Sink>(
     alloc: Global,
-    names: &[Letters],
     plain: &mut Plain,
     variables: &mut Vec<Variable>,
     statement: &Statement,
@@ -75,16 +64,17 @@ fn take_turn<K: Sink>(
     sink: &mut K,
 ) -> Result<(), RunFault>
     requires room { HasRoom plain.old }
+    requires thin { IsThinStatement statement.now }
     ensures ran { OnOk result (IsPresent (does (present plain.old variables.old.items) statement.now) plain.new variables.new.items) }
     ensures ok { OnOk result (Appends (K.taken sink.old) (K.taken sink.new)
-        (answer_line names.now turn (answers (present plain.old variables.old.items) statement.now))) }
-    ensures err { OnErr result ((n : ℕ) × (n ≤ length (answer_line names.now turn (answers (present plain.old variables.old.items) statement.now)))
-        × Appends (K.taken sink.old) (K.taken sink.new) (take n (answer_line names.now turn (answers (present plain.old variables.old.items) statement.now)))) }
+        (turn_lines turn (present plain.old variables.old.items) statement.now)) }
+    ensures err { OnErr result ((n : ℕ) × (n ≤ length (turn_lines turn (present plain.old variables.old.items) statement.now))
+        × Appends (K.taken sink.old) (K.taken sink.new) (take n (turn_lines turn (present plain.old variables.old.items) statement.now))) }
     ensures sink { IsErrOf result RunFault.Sink → Rose (K.faults sink.old) (K.faults sink.new) }
     ensures never_falls { K.faults sink.old ≤ K.faults sink.new }
 {
     let answered = step(alloc, plain, variables, statement)?;
-    let text = answer_line(alloc, names, turn, &answered)?;
+    let text = answer_lines(alloc, turn, answered.as_slice())?;
     print(sink, text.as_slice())
 }
 
@@ -98,26 +88,18 @@ pub fn run<K: Sink>(
     statements: &[Statement],
     sink: &mut K,
 ) -> Result<(), RunFault>
-    requires { length statements.now ≤ 4096 }
-    ensures ok { OnOk result (Appends (K.taken sink.old) (K.taken sink.new) (output_of schema statements.now)) }
-    ensures err { OnErr result ((n : ℕ) × Appends (K.taken sink.old) (K.taken sink.new) (take n (output_of schema statements.now))) }
+    requires few { length statements.now ≤ 4096 }
+    requires thin { All IsThinStatement statements.now }
+    ensures ok { OnOk result (Appends (K.taken sink.old) (K.taken sink.new) (unrefused_output schema statements.now)) }
+    ensures err { OnErr result ((n : ℕ) × Appends (K.taken sink.old) (K.taken sink.new) (take n (unrefused_output schema statements.now))) }
     ensures sink { IsErrOf result RunFault.Sink → Rose (K.faults sink.old) (K.faults sink.new) }
     ensures never_falls { K.faults sink.old ≤ K.faults sink.new }
 {
-    let names = copy_names(alloc, &schema)?;
     let mut plain = Plain::new(alloc, schema)?;
     let mut variables = Vec::new(alloc);
     let mut turn = 1u64;
     for statement in statements {
-        take_turn(
-            alloc,
-            names.as_slice(),
-            &mut plain,
-            &mut variables,
-            statement,
-            turn,
-            sink,
-        )?;
+        take_turn(alloc, &mut plain, &mut variables, statement, turn, sink)?;
         turn += 1;
     }
     let text = commit_line(alloc, turn)?;

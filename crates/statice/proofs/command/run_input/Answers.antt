@@ -1,5 +1,5 @@
 use Rattle.std.proofs.Common.{inr, refl}
-use Rattle.statice.proofs.Finding.{thin_found, refused_fault, refused_later}
+use Rattle.statice.proofs.Finding.{thin_found, refused_fault, refused_schema, refused_later}
 use Rattle.statice.proofs.command.run_input.Goals as goal
 
 pub returns-in-Ok-Program-clause-answered : goal.returns-in-Ok-Program-clause-answered
@@ -24,6 +24,11 @@ pub returns-in-Ok-TextFault-clause-refused : goal.returns-in-Ok-TextFault-clause
 returns-in-Ok-TextFault-clause-refused g c =
     let found = rw c.in-Ok-TextFault.field-0-is at c.in-Ok-TextFault.ensures in
     λ e. let refused = c.refuse_text.ensures.refused e in (refused.0, refused_fault _ _ _ found (refused.1), refused.2)
+
+pub returns-in-Ok-SchemaFault-clause-refused : goal.returns-in-Ok-SchemaFault-clause-refused
+returns-in-Ok-SchemaFault-clause-refused g c =
+    let found = rw c.in-Ok-SchemaFault.field-0-is at c.in-Ok-SchemaFault.ensures in
+    λ e. let refused = c.refuse_schema.ensures.refused e in (refused.0, refused_schema _ _ _ found (refused.1), refused.2)
 
 pub returns-in-Ok-Later-clause-refused : goal.returns-in-Ok-Later-clause-refused
 returns-in-Ok-Later-clause-refused g c =

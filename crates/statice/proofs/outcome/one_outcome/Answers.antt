@@ -3,7 +3,7 @@ use Rattle.statice.proofs.outcome.one_outcome.Goals as goal
 
 pub returns : goal.returns
 returns c = record {
-  some_outcome = some_outcome c.one_answer.ensures.some_answer;
+  some_outcome = some_outcome c.one_answer.ensures.some_answer c.never_memory.ensures;
   never_both = never_both c.one_answer.ensures.no_other;
   one_program = one_program c.one_answer.ensures.no_other;
   one_line = one_line c.one_answer.ensures.no_other;

@@ -1,0 +1,5 @@
+mod Tables
+mod Lattices
+mod Found
+mod Within
+mod Outside

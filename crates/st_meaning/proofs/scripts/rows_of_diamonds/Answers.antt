@@ -1,0 +1,17 @@
+use Rattle.std.proofs.Common.{refl}
+use Rattle.std.specs.Fmt.{digits}
+use Rattle.st_query.specs.Ways.{way}
+use Rattle.st_meaning.specs.Terms.{term_meaning}
+use Rattle.st_meaning.specs.Kinds.{term_refused}
+use Rattle.st_meaning.specs.Rules.{refusal}
+use Rattle.st_meaning.specs.Runs.{runs, runs_statement}
+use Rattle.st_meaning.specs.Lines.{client_lines}
+use Rattle.st_meaning.proofs.scripts.rows_of_diamonds.Goals as goal
+
+pub returns-clause-diamond : goal.returns-clause-diamond
+unfolding client_lines runs runs_statement refusal term_refused term_meaning way digits
+returns-clause-diamond c = refl
+
+pub returns-clause-inherited : goal.returns-clause-inherited
+unfolding client_lines runs runs_statement refusal term_refused term_meaning way digits
+returns-clause-inherited c = refl

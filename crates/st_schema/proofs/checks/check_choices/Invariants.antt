@@ -1,0 +1,8 @@
+use Rattle.std.proofs.Common.{◌≡◌, ◌+◌, ◌++◌, drop, take, map, min, [], Ok}
+use Rattle.st_schema.specs.Checks.{choice_fault}
+use Rattle.std.specs.Option.{option_map}
+use Rattle.st_schema.specs.Meaning.{unless}
+use Rattle.st_schema.proofs.checks.check_choices.Given as goal
+
+abbrev pub invariant-loop-choice : goal.invariant-loop-choice
+invariant-loop-choice l = choice_fault l.worded l.many (drop l.choice-index l.choices) ≡ choice_fault l.worded l.many l.choices
