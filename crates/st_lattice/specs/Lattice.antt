@@ -1,5 +1,5 @@
 -- Which types are of which, and which attributes a type has from those that it descends from.
-use Rattle.std.specs.Prelude.{ℕ, zero, suc, Bool, false, ◌==◌, ◌||◌, ◌&&◌, List, [], ◌∷◌, length, map, filter, find, slice_index_or, Option}
+use Rattle.std.specs.Prelude.{ℕ, zero, suc, Bool, false, ◌==◌, ◌||◌, ◌&&◌, List, [], length, map, filter, find, slice_index_or, Option}
 use Rattle.std.specs.List.{list_any, range_with_len}
 use Rattle.std.specs.Str.{bytes_eq}
 use Rattle.st_lattice.specs.declared.attribute.Attribute.{Attribute}

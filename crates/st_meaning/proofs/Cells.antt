@@ -13,10 +13,11 @@ use Rattle.st_lattice.specs.declared.attribute.Attribute.{Attribute}
 use Rattle.st_lattice.specs.Outline.{Outline, attribute}
 use Rattle.st_lattice.specs.Lattice.{isa, attributes_in, attribute_of}
 use Rattle.st_lattice.specs.Stores.{passes}
+use Rattle.st_lattice.specs.Plain.{IsPlain}
 use Rattle.st_query.specs.declared.statement.Cell.{Cell}
 use Rattle.st_state.specs.declared.triple.Triple.{Triple}
 use Rattle.st_state.specs.State.{State, same_entity, is_live, is_at, turned, attribute_set}
-use Rattle.st_state.specs.Legal.{can_hold, IsPlain, IsNearlyLegal, IsLegal}
+use Rattle.st_state.specs.Legal.{can_hold, IsNearlyLegal, IsLegal}
 use Rattle.st_state.proofs.Orders.{same_entity-itself}
 use Rattle.st_state.proofs.Tests.{not-true, first-of, other-of, never, all-two}
 use Rattle.st_state.proofs.Changed.{number-is, number-itself, found-only, new}

@@ -1,8 +1,7 @@
 -- The written order is total, tells entities apart, and arranges a selection in one way.
 use Rattle.std.proofs.Common.{◌≡◌, ℕ, Bool, true, false, List, [], ◌∷◌, refl, sym, ap, subst, arith}
-use Rattle.std.specs.Prelude.{◌||◌, IsPermutation, IsTrue}
+use Rattle.std.specs.Prelude.{◌||◌, IsPermutation, IsTrue, Option, Some, None}
 use Rattle.std.specs.List.{list_all}
-use Rattle.std.specs.Prelude.{Option, Some, None}
 use Rattle.std.specs.declared.cmp.Ordering.{Ordering}
 use Rattle.std.specs.declared.cmp.Ordering.TheVariants.{Less, Equal, Greater}
 use Rattle.std.specs.Ordering.{is_lt, ordering_reverse, nat_cmp, on, then_cmp}

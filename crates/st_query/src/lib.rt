@@ -5,6 +5,7 @@ mod statement;
 mod term;
 
 pub use statement::{
-    Cell, Cells, Condition, Conditions, Key, Keys, Query, Sign, Statement, Statements, Transaction,
+    Cell, Cells, Condition, Conditions, Key, Keys, Query, Script, Sign, Statement, Statements,
+    Transaction,
 };
 pub use term::{Literal, Term, Terms, Variable, Variables};

@@ -185,6 +185,9 @@ pub struct Transaction {
     pub statements: Statements,
 }
 
+/// A list of transactions, run one after another.
+pub type Script = Items<Transaction>;
+
 impl Duplicate for Cell {
     fn copy(&self, alloc: Global) -> Result<Cell, AllocError> {
         Ok(Cell {

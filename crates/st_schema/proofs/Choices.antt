@@ -1,5 +1,5 @@
 -- Options are read two forms at a time.
-use Rattle.std.proofs.Common.{◌≡◌, ℕ, List, [], ◌∷◌, Option, Some, None, Result, Ok, Err, refl, arith}
+use Rattle.std.proofs.Common.{◌≡◌, List, [], ◌∷◌, Some, Ok, arith}
 use Rattle.st_sexp.specs.declared.form.Form.{Form}
 use Rattle.st_sexp.specs.Views.{as_front}
 use Rattle.st_schema.specs.declared.written.Choice.{Choice}

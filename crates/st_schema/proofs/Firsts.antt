@@ -1,5 +1,5 @@
 -- The first of two checks that refuses.
-use Rattle.std.proofs.Common.{◌≡◌, ℕ, suc, ◌+◌, ◌-◌, ◌<◌, List, [], ◌∷◌, ◌++◌, length, get_or, take, drop, map, Option, Some, None, Result, Ok, Err, refl, ap, sym, arith}
+use Rattle.std.proofs.Common.{◌≡◌, ℕ, suc, ◌+◌, ◌-◌, ◌<◌, List, [], ◌∷◌, ◌++◌, length, get_or, take, drop, map, Option, Some, None, Ok, Err, refl, ap, sym, arith}
 use Rattle.std.proofs.Math.Seq.{drop-cons}
 use Rattle.std.proofs.Math.Numerals.{add-one}
 use Rattle.std.proofs.lemmas.List.{take-map, map_more}
@@ -9,7 +9,6 @@ use Rattle.st_schema.specs.declared.fault.SchemaFault.{SchemaFault}
 use Rattle.st_schema.specs.declared.fault.SchemaFault.TheVariants as fault
 use Rattle.st_schema.specs.declared.written.TypeForm.{TypeForm}
 use Rattle.st_schema.specs.Checks.{parent_fault, parents_fault, unknown_in, unknown_type}
-use Rattle.st_schema.specs.Written.{Reading}
 use Rattle.st_schema.specs.Meaning.{Answers, unless, first_of}
 
 no_fault : (e : SchemaFault) (b : Option SchemaFault) → Answers (Err e) (unless None (tt {0})) → Answers (Err e) (unless b (tt {0}))

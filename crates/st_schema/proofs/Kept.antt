@@ -83,7 +83,7 @@ all_go w many ss = list_all (goes_with w many) ss
 go_parts : (w : Worded) (many : Bool) (s : Setting) (ss : List Setting) → all_go w many (s ∷ ss) ≡ true → (goes_with w many s ≡ true) × (all_go w many ss ≡ true)
 go_parts w many s ss go = and_parts (goes_with w many s) (all_go w many ss) go
 
-goes_first : (goes : Bool) (w : Worded) (many : Bool) (place : ℕ) (choices : List Choice) → cond goes (choice_fault w many choices) (Some (BadOption place)) ≡ None → (goes ≡ true) × (choice_fault w many choices ≡ None)
+pub goes_first : (goes : Bool) (w : Worded) (many : Bool) (place : ℕ) (choices : List Choice) → cond goes (choice_fault w many choices) (Some (BadOption place)) ≡ None → (goes ≡ true) × (choice_fault w many choices ≡ None)
 goes_first true w many place choices is = (refl, is)
 goes_first false w many place choices is = absurd (cc)
 

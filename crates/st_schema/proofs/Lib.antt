@@ -17,3 +17,5 @@ mod Firsts
 mod Orderly
 mod Printing
 mod Memoryless
+mod Apart
+mod Read

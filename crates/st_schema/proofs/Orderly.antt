@@ -1,11 +1,10 @@
 -- The numbers of a schema whose checks were passed are in order.
-use Rattle.std.proofs.Common.{◌≡◌, ◌∙◌, ℕ, zero, suc, ◌+◌, ◌<◌, ◌≤◌, Bool, true, false, not, cond, ◌||◌, List, [], ◌∷◌, ◌++◌, length, get_or, map, Option, Some, None, refl, sym, ap, arith, All, append_assoc, append-nil}
-use Rattle.std.specs.Prelude.{nat_lt, if◌then◌else◌}
-use Rattle.std.specs.List.{list_any, position_or_len}
-use Rattle.std.specs.Option.{option_or, option_map}
+use Rattle.std.proofs.Common.{◌≡◌, ℕ, zero, suc, ◌+◌, ◌<◌, ◌≤◌, Bool, true, false, not, cond, ◌||◌, List, [], ◌∷◌, ◌++◌, length, get_or, map, Option, Some, None, refl, ap, arith, All, append_assoc, append-nil}
+use Rattle.std.specs.Prelude.{nat_lt}
+use Rattle.std.specs.Option.{option_or}
 use Rattle.std.specs.Str.{bytes_eq}
 use Rattle.std.proofs.lemmas.Bool.Decides.{nat_tests}
-use Rattle.std.proofs.lemmas.List.Elements.{All-head, All-tail, All-cons, All-append}
+use Rattle.std.proofs.lemmas.List.Elements.{All-cons, All-append}
 use Rattle.std.proofs.lemmas.List.{length-append, length-map}
 use Rattle.st_lattice.specs.declared.attribute.Attribute.{Attribute}
 use Rattle.st_lattice.specs.Outline.{IsOrderly, IsWithin}
@@ -16,7 +15,7 @@ use Rattle.st_schema.specs.declared.written.Worded.TheVariants as worded
 use Rattle.st_schema.specs.declared.written.AttributeForm.{AttributeForm}
 use Rattle.st_schema.specs.declared.written.TypeForm.{TypeForm}
 use Rattle.st_schema.specs.declared.written.Written.{Written}
-use Rattle.st_schema.specs.Checks.{has, attribute_count, too_many, repeated_type, parent_fault, parents_fault, unknown_of, unknown_in, unknown_type, bad_option, written_fault}
+use Rattle.st_schema.specs.Checks.{has, attribute_count, too_many, repeated_type, parent_fault, parents_fault, unknown_of, unknown_in, unknown_type, written_fault}
 use Rattle.st_schema.specs.Resolved.{place_of, kind_of, attribute_of_form, attributes_from, all_attributes, resolved}
 
 abbrev names_in : List TypeForm → List (List ℕ)
@@ -129,7 +128,7 @@ kinds_within names number owner (t ∷ types) e =
     (kinds_from names number owner t.attributes (first_none (unknown_in names t.attributes) (unknown_type names types) e))
     (kinds_within names (number + length t.attributes) (owner + 1) types (second_none (unknown_in names t.attributes) (unknown_type names types) e))
 
-count_from : (names : List (List ℕ)) (number owner : ℕ) (attributes : List AttributeForm) → length (attributes_from names number owner attributes) ≡ length attributes
+pub count_from : (names : List (List ℕ)) (number owner : ℕ) (attributes : List AttributeForm) → length (attributes_from names number owner attributes) ≡ length attributes
 count_from names number owner [] = refl
 count_from names number owner (a ∷ attributes) = ap suc (count_from names (number + 1) owner attributes)
 

@@ -22,14 +22,14 @@ unless_ok None x y is = (refl, cc)
 unless_ok (Some fault) x y is = absurd (cc)
 
 -- how a schema was read
-record WasRead (forms : List Form) (schema : Outline) : Type 0 where
+pub record WasRead (forms : List Form) (schema : Outline) : Type 0 where
   pub w : Written
   pub reads : written forms ≡ Ok w
   pub fits : written_fault w.types ≡ None
   pub same : resolved w ≡ schema
   pub right : schema_fault schema ≡ None
 
-was_read : (forms : List Form) (schema : Outline) → schema_of forms ≡ Ok schema → WasRead forms schema
+pub was_read : (forms : List Form) (schema : Outline) → schema_of forms ≡ Ok schema → WasRead forms schema
 was_read forms schema is =
     let one = step (written forms) (λ w. and_then (unless (written_fault w.types) (resolved w)) (λ schema. unless (schema_fault schema) schema)) schema is in
     let two = step (unless (written_fault one.value.types) (resolved one.value)) (λ schema. unless (schema_fault schema) schema) schema one.then in

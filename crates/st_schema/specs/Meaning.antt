@@ -1,5 +1,5 @@
 -- The schema that forms are, or the first fault in them.
-use Rattle.std.specs.Prelude.{◌≡◌, ℕ, Bool, true, not, ◌&&◌, ◌||◌, ◌==◌, nat_lt, if◌then◌else◌, List, [], ◌∷◌, ◌++◌, length, find, map, Option, Some, None, Result, Ok, Err, ⊤}
+use Rattle.std.specs.Prelude.{◌≡◌, ℕ, Bool, true, not, ◌&&◌, ◌==◌, nat_lt, if◌then◌else◌, List, [], ◌∷◌, ◌++◌, length, Option, Some, None, Ok, Err, ⊤}
 use Rattle.std.specs.List.{list_any}
 use Rattle.std.specs.Option.{option_or, option_map}
 use Rattle.std.specs.Str.{bytes_eq}
@@ -13,7 +13,6 @@ use Rattle.st_lattice.specs.Features.{features}
 use Rattle.st_lattice.specs.Stores.{row_width}
 use Rattle.st_schema.specs.declared.fault.SchemaFault.{SchemaFault}
 use Rattle.st_schema.specs.declared.fault.SchemaFault.TheVariants.{Repeated, AmbiguousName, RowTooWide, Memory}
-use Rattle.st_schema.specs.declared.written.Written.{Written}
 use Rattle.st_schema.specs.Written.{Reading, and_then, written}
 use Rattle.st_schema.specs.Checks.{written_fault}
 use Rattle.st_schema.specs.Resolved.{resolved}

@@ -5,7 +5,7 @@ use Rattle.std.specs.List.{list_any}
 use Rattle.std.specs.Option.{option_and_then, option_map, ok_or}
 use Rattle.std.specs.Str.{bytes_eq}
 use Rattle.st_sexp.specs.declared.form.Form.{Form}
-use Rattle.st_sexp.specs.Views.{as_name, as_number, as_list, as_front, has_letters, is_word}
+use Rattle.st_sexp.specs.Views.{as_name, as_number, as_list, as_front, is_word}
 use Rattle.st_schema.specs.declared.fault.SchemaFault.{SchemaFault}
 use Rattle.st_schema.specs.declared.fault.SchemaFault.TheVariants as fault
 use Rattle.st_schema.specs.declared.written.Setting.{Setting}

@@ -1,8 +1,8 @@
 ghost use Rattle.std.specs.Prelude.{◌≡◌};
 ghost use Rattle.st_schema.specs.declared.fault.SchemaFault.TheVariants.{Memory};
 
-use st_text::Letters;
-use std::alloc::{AllocError, AllocFailed};
+use st_text::{Duplicate, Letters};
+use std::alloc::{AllocError, AllocFailed, Global};
 use thiserror::Error;
 
 /// What there can be too many of.
@@ -89,5 +89,36 @@ impl<T: Drop> From<AllocFailed<T>> for SchemaFault {
 
     fn from(_: AllocFailed<T>) -> SchemaFault {
         SchemaFault::Memory
+    }
+}
+
+impl Duplicate for SchemaFault {
+    fn copy(&self, alloc: Global) -> Result<SchemaFault, AllocError> {
+        match self {
+            SchemaFault::Form { place } => Ok(SchemaFault::Form { place: *place }),
+            SchemaFault::Repeated { name } => Ok(SchemaFault::Repeated {
+                name: name.copy(alloc)?,
+            }),
+            SchemaFault::UnknownParent { name } => Ok(SchemaFault::UnknownParent {
+                name: name.copy(alloc)?,
+            }),
+            SchemaFault::UnknownType { name } => Ok(SchemaFault::UnknownType {
+                name: name.copy(alloc)?,
+            }),
+            SchemaFault::AmbiguousName { ty, name } => Ok(SchemaFault::AmbiguousName {
+                ty: ty.copy(alloc)?,
+                name: name.copy(alloc)?,
+            }),
+            SchemaFault::RowTooWide { ty, width } => Ok(SchemaFault::RowTooWide {
+                ty: ty.copy(alloc)?,
+                width: *width,
+            }),
+            SchemaFault::TooMany { what, count } => Ok(SchemaFault::TooMany {
+                what: *what,
+                count: *count,
+            }),
+            SchemaFault::BadOption { place } => Ok(SchemaFault::BadOption { place: *place }),
+            SchemaFault::Memory => Ok(SchemaFault::Memory),
+        }
     }
 }

@@ -22,7 +22,7 @@ mod written;
 
 pub use fault::{Counted, SchemaFault};
 pub use form::identifier;
-pub use laws::never_memory;
+pub use laws::{laws_of_schemas, never_memory};
 pub use names::is_name;
 pub use print::print_schema;
 pub use reader::read_schema;

@@ -41,10 +41,11 @@ fn fault_text(alloc: Global, fault: &SchemaFault) -> Result<String, AllocError> 
     }
 }
 
+/// What a text is answered, a fault by way of its copy.
 fn shown(alloc: Global, text: &str) -> Result<String, AllocError> {
     match answer(alloc, text) {
         Ok(_) => String::from_str(alloc, "ok"),
-        Err(fault) => fault_text(alloc, &fault),
+        Err(fault) => fault_text(alloc, &fault.copy(alloc)?),
     }
 }
 

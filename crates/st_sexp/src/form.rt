@@ -36,6 +36,12 @@ impl Duplicate for Form {
     }
 }
 
+impl Duplicate for Shape {
+    fn copy(&self, alloc: Global) -> Result<Shape, AllocError> {
+        copy_shape(alloc, self)
+    }
+}
+
 #[cycle(copy)]
 fn copy_form(alloc: Global, form: &Form) -> Result<Form, AllocError>
     ensures { IfOk result (λ copied. copied ≡ form.now) }

@@ -180,11 +180,21 @@ fn opens_64_lists(rt: HostRuntime) -> Result<(), Fail> {
 fn copies_forms(rt: HostRuntime) -> Result<(), Fail> {
     let forms = answer(rt.alloc(), b"(a (\"b\" 7) ())")?;
     assert_eq!(rt; forms.len(), 1);
-    let mut out = String::new(rt.alloc());
-    show(&forms.as_slice()[0].copy(rt.alloc())?, &mut out)?;
-    assert_eq!(rt;
-        out.as_str(),
-        "( a:1-2 ( 'b':4-7 7:8-9):3-10 ():11-13):0-14"
-    );
+    let form = &forms.as_slice()[0];
+    let want = "( a:1-2 ( 'b':4-7 7:8-9):3-10 ():11-13):0-14";
+    let mut whole = String::new(rt.alloc());
+    show(&form.copy(rt.alloc())?, &mut whole)?;
+    assert_eq!(rt; whole.as_str(), want);
+    let shape = form.shape.copy(rt.alloc())?;
+    let mut again = String::new(rt.alloc());
+    show(
+        &Form {
+            shape,
+            from: 0,
+            to: 14,
+        },
+        &mut again,
+    )?;
+    assert_eq!(rt; again.as_str(), want);
     Ok(())
 }

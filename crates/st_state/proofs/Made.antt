@@ -6,8 +6,9 @@ use Rattle.std.proofs.lemmas.List.{get_or-set_same, get_or-set_other, length-rep
 use Rattle.st_values.specs.declared.value.EntityId.{EntityId}
 use Rattle.st_values.proofs.Placing.{both, left, right, either, differ, all-weaken, ascends-placed, all-placed}
 use Rattle.st_lattice.specs.Outline.{Outline, IsOrderly}
+use Rattle.st_lattice.specs.Plain.{IsPlain}
 use Rattle.st_state.specs.State.{State, empty_state, same_entity, is_live, entity_before, next_entity, entity_made}
-use Rattle.st_state.specs.Legal.{is_counted, is_sound, IsPlain, IsNearlyLegal, IsLegal}
+use Rattle.st_state.specs.Legal.{is_counted, is_sound, IsNearlyLegal, IsLegal}
 use Rattle.st_state.proofs.Orders.{same_entity-itself, entity_before-strict}
 use Rattle.st_state.proofs.Tests.{one-of, first-of, any-placed}
 use Rattle.st_state.proofs.Kept.{is_sound-moved}

@@ -1,7 +1,6 @@
 -- Which states are legal.
-use Rattle.std.specs.Prelude.{ℕ, ◌≡◌, Bool, true, false, not, ◌||◌, ◌&&◌, ◌==◌, nat_lt, nat_le, length, slice_index, IsTrue}
+use Rattle.std.specs.Prelude.{◌≡◌, Bool, true, false, not, ◌||◌, ◌&&◌, ◌==◌, nat_lt, nat_le, length, slice_index, IsTrue}
 use Rattle.std.specs.List.{list_all, list_any}
-use Rattle.std.specs.Str.{bytes_eq}
 use Rattle.st_values.specs.declared.value.EntityId.{EntityId}
 use Rattle.st_values.specs.declared.value.Kind.{Kind}
 use Rattle.st_values.specs.declared.value.Kind.TheVariants as kind
@@ -11,6 +10,7 @@ use Rattle.st_values.specs.Order.{same_value}
 use Rattle.st_values.specs.Arranged.{each_pair, ascends}
 use Rattle.st_lattice.specs.Outline.{Outline, IsOrderly, attribute}
 use Rattle.st_lattice.specs.Lattice.{isa, attributes_in}
+use Rattle.st_lattice.specs.Plain.{IsPlain}
 use Rattle.st_lattice.specs.Stores.{passes}
 use Rattle.st_state.specs.declared.triple.Triple.{Triple}
 use Rattle.st_state.specs.State.{State, is_live, entity_before, triple_before, is_at}
@@ -46,12 +46,6 @@ apart_in_value schema a b =
 -- each attribute of an entity that admits no null has a value
 abbrev pub is_filled : State → EntityId → Bool
 is_filled state e = list_all (λ a. not a.no_nulls || list_any (is_at a.number e) state.triples) (attributes_in state.schema e.ty)
-
--- attributes are told apart by their numbers, and those of one type by their names; none with sets admits no null
-pub record IsPlain (schema : Outline) : Type 0 where
-  pub numbers : IsTrue (each_pair (λ a b. not (b.number == a.number)) schema.attributes)
-  pub names : (ty : ℕ) → IsTrue (each_pair (λ a b. not (bytes_eq b.name a.name)) (attributes_in schema ty))
-  pub sets : IsTrue (list_all (λ a. not (a.many && a.no_nulls)) schema.attributes)
 
 -- a state that is legal, save that an attribute that admits no null may be null
 pub record IsNearlyLegal (state : State) : Type 0 where

@@ -3,3 +3,4 @@ mod Serials
 mod Running
 mod Taking
 mod Finding
+mod Legality

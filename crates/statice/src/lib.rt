@@ -3,6 +3,7 @@
 
 mod command;
 mod input;
+mod laws;
 mod line;
 mod outcome;
 mod program;
@@ -11,4 +12,5 @@ mod run;
 mod words;
 
 pub use command::{Status, statice};
+pub use laws::laws_of_databases;
 pub use outcome::one_outcome;

@@ -1,4 +1,4 @@
-use Rattle.std.proofs.Common.{◌≡◌, ◌≤◌, ℕ, List, length, drop}
+use Rattle.std.proofs.Common.{◌≡◌, ◌≤◌, ℕ, length, drop}
 use Rattle.st_lattice.specs.Made.{place, place_from}
 use Rattle.st_lattice.proofs.places.places_of.Given as goal
 

@@ -1,7 +1,5 @@
-use Rattle.std.proofs.Common.{◌≡◌, ◌++◌, map}
-use Rattle.st_lattice.specs.declared.stores.StoreKind.TheVariants as StoreKind
-use Rattle.st_lattice.specs.Lattice.{below}
-use Rattle.st_lattice.specs.Stores.{store, stores_below}
+use Rattle.std.proofs.Common.{◌≡◌, ◌++◌}
+use Rattle.st_lattice.specs.Stores.{stores_below}
 use Rattle.st_lattice.proofs.stores.push_stores.Given as goal
 
 abbrev pub invariant-loop-number : goal.invariant-loop-number

@@ -1,7 +1,5 @@
-use Rattle.std.proofs.Common.{◌≡◌, ◌+◌, ◌++◌, drop, take, map, min, [], Ok}
+use Rattle.std.proofs.Common.{◌≡◌, drop}
 use Rattle.st_schema.specs.Checks.{choices_in}
-use Rattle.std.specs.Option.{option_map}
-use Rattle.st_schema.specs.Meaning.{unless}
 use Rattle.st_schema.proofs.checks.check_choices_in.Given as goal
 
 abbrev pub invariant-loop-attribute : goal.invariant-loop-attribute

@@ -1,7 +1,5 @@
-use Rattle.std.proofs.Common.{◌≡◌, ◌+◌, ◌++◌, drop, take, map, min, [], Ok}
+use Rattle.std.proofs.Common.{◌≡◌, drop, take, map, []}
 use Rattle.st_schema.specs.Checks.{parents_fault}
-use Rattle.std.specs.Option.{option_map}
-use Rattle.st_schema.specs.Meaning.{unless}
 use Rattle.st_schema.proofs.checks.check_parents.Given as goal
 
 abbrev pub invariant-loop-ty : goal.invariant-loop-ty

@@ -1,7 +1,5 @@
-use Rattle.std.proofs.Common.{◌≡◌, ◌+◌, ◌++◌, drop, take, map, min, [], Ok}
+use Rattle.std.proofs.Common.{◌≡◌, drop, take, []}
 use Rattle.st_schema.specs.Checks.{parent_fault}
-use Rattle.std.specs.Option.{option_map}
-use Rattle.st_schema.specs.Meaning.{unless}
 use Rattle.st_schema.proofs.checks.check_parents_of.Given as goal
 
 abbrev pub invariant-loop-parent : goal.invariant-loop-parent

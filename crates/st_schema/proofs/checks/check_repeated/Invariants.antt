@@ -1,7 +1,5 @@
-use Rattle.std.proofs.Common.{◌≡◌, ◌+◌, ◌++◌, drop, take, map, min, [], Ok}
+use Rattle.std.proofs.Common.{◌≡◌, drop, take, []}
 use Rattle.st_schema.specs.Checks.{first_repeated}
-use Rattle.std.specs.Option.{option_map}
-use Rattle.st_schema.specs.Meaning.{unless}
 use Rattle.st_schema.proofs.checks.check_repeated.Given as goal
 
 abbrev pub invariant-loop-name : goal.invariant-loop-name

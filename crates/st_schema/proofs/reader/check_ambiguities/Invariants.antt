@@ -1,5 +1,4 @@
-use Rattle.std.proofs.Common.{◌≡◌, ◌+◌, ◌-◌, None, drop, take, length}
-use Rattle.std.specs.Option.{option_copied}
+use Rattle.std.proofs.Common.{◌≡◌, ◌-◌, length}
 use Rattle.std.specs.List.{range_with_len}
 use Rattle.st_schema.specs.Meaning.{first_of, ambiguous_at}
 use Rattle.st_schema.proofs.reader.check_ambiguities.Given as goal

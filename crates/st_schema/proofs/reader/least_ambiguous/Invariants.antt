@@ -1,4 +1,4 @@
-use Rattle.std.proofs.Common.{◌≡◌, ◌+◌, ◌-◌, None, drop, take, length}
+use Rattle.std.proofs.Common.{◌≡◌, None, drop}
 use Rattle.std.specs.Option.{option_copied}
 use Rattle.st_schema.specs.Meaning.{least_ambiguous}
 use Rattle.st_schema.proofs.reader.least_ambiguous.Given as goal

@@ -1,4 +1,4 @@
-use Rattle.std.proofs.Common.{◌≡◌, ◌+◌, ◌≤◌, ◌++◌, length, drop, take, map}
+use Rattle.std.proofs.Common.{◌≡◌, ◌+◌, ◌++◌, length, drop}
 use Rattle.st_schema.specs.Checks.{attribute_count}
 use Rattle.st_schema.specs.Resolved.{all_attributes}
 use Rattle.st_schema.proofs.resolve.all_attributes.Given as goal

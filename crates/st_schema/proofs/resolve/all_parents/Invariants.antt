@@ -1,4 +1,4 @@
-use Rattle.std.proofs.Common.{◌≡◌, ◌+◌, ◌≤◌, ◌++◌, length, drop, take, map}
+use Rattle.std.proofs.Common.{◌≡◌, take, map}
 use Rattle.st_schema.specs.Resolved.{place_of}
 use Rattle.st_schema.proofs.resolve.all_parents.Given as goal
 

@@ -1,4 +1,4 @@
-use Rattle.std.proofs.Common.{◌≡◌, ◌+◌, ◌≤◌, ◌++◌, length, drop}
+use Rattle.std.proofs.Common.{◌≡◌, drop}
 use Rattle.st_schema.specs.Resolved.{inverse_in}
 use Rattle.st_schema.proofs.resolve.inverse_in.Given as goal
 

@@ -1,4 +1,4 @@
-use Rattle.std.proofs.Common.{◌≡◌, ◌+◌, ◌≤◌, ◌++◌, length, drop}
+use Rattle.std.proofs.Common.{◌≡◌, ◌+◌, drop}
 use Rattle.st_schema.specs.Resolved.{place_of}
 use Rattle.st_schema.proofs.resolve.place_of.Given as goal
 

@@ -1,4 +1,4 @@
-use Rattle.std.proofs.Common.{◌≡◌, ◌+◌, ◌≤◌, ◌++◌, length, drop}
+use Rattle.std.proofs.Common.{◌≡◌, ◌+◌, ◌++◌, length, drop}
 use Rattle.st_schema.specs.Resolved.{attributes_from}
 use Rattle.st_schema.proofs.resolve.push_attributes.Given as goal
 

@@ -1,4 +1,4 @@
-use Rattle.std.proofs.Common.{rules, ◌≡◌, arith}
+use Rattle.std.proofs.Common.{rules}
 use Rattle.st_lattice.specs.Lattice.{isa}
 use Rattle.st_lattice.proofs.Lattices.{kept_more, left_out_more}
 use Rattle.st_lattice.proofs.schema.Schema.ancestors.Goals.{then-isa+in_ok-push, else-isa}

@@ -1,4 +1,4 @@
-use Rattle.std.proofs.Common.{◌≡◌, ◌+◌, ◌≤◌, ◌*◌, take, map}
+use Rattle.std.proofs.Common.{◌≡◌}
 use Rattle.std.specs.Prelude.{filter}
 use Rattle.st_lattice.specs.Lattice.{isa, below}
 use Rattle.st_lattice.proofs.schema.Schema.ancestors.Given as goal

@@ -1,4 +1,4 @@
-use Rattle.std.proofs.Common.{◌≡◌, ◌+◌, ◌≤◌, ◌*◌, take, map}
+use Rattle.std.proofs.Common.{◌≡◌, take, map}
 use Rattle.std.specs.Prelude.{filter}
 use Rattle.st_lattice.specs.Lattice.{isa}
 use Rattle.st_lattice.proofs.schema.Schema.attributes_of.Given as goal

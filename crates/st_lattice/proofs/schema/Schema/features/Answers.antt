@@ -1,4 +1,4 @@
-use Rattle.std.proofs.Common.{◌≡◌, ◌<◌, List, length, All}
+use Rattle.std.proofs.Common.{◌≡◌, ◌<◌, length, All}
 use Rattle.std.specs.Prelude.{flat_map}
 use Rattle.st_lattice.specs.declared.feature.Named.{Named}
 use Rattle.st_lattice.specs.Features.{named}

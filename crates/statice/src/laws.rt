@@ -1,0 +1,24 @@
+ghost use Rattle.std.specs.Prelude.{◌≡◌, List, Ok, IsTrue};
+ghost use Rattle.std.specs.List.{All, list_all};
+ghost use Rattle.st_sexp.specs.declared.form.Form.{Form};
+ghost use Rattle.st_lattice.specs.Outline.{Outline};
+ghost use Rattle.st_schema.specs.Meaning.{schema_of};
+ghost use Rattle.st_query.specs.declared.statement.Statement.{Statement};
+ghost use Rattle.st_state.specs.Legal.{IsLegal};
+ghost use Rattle.st_state.specs.State.{empty_state};
+ghost use Rattle.st_meaning.specs.Laws.{is_written};
+ghost use Rattle.st_meaning.specs.Runs.{states_after};
+
+use st_meaning::laws_of_states;
+use st_schema::laws_of_schemas;
+
+/// A database whose schema was read is legal as long as it lives: while it is new, and after each of any transactions
+/// that can be written, one after another, whether they are refused or not.
+pub fn laws_of_databases()
+    ensures new { (forms : List Form) (schema : Outline) → schema_of forms ≡ Ok schema → IsLegal (empty_state schema) }
+    ensures later { (forms : List Form) (schema : Outline) → schema_of forms ≡ Ok schema → (transactions : List (List Statement)) →
+        IsTrue (list_all (list_all is_written) transactions) → All IsLegal (states_after (empty_state schema) transactions) }
+{
+    laws_of_schemas();
+    laws_of_states();
+}
