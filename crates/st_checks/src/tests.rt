@@ -184,6 +184,24 @@ fn faults_of_schemas_are_told(rt: HostRuntime) -> Result<(), Fail> {
 }
 
 #[test]
+fn types_and_attributes_are_counted(rt: HostRuntime) -> Result<(), Fail> {
+    let types = repeated(rt.alloc(), "(define-entity-type t () ())", 65)?;
+    let answer = try_text(rt.alloc(), "(define-schema s)", types.as_str())?;
+    expect(&rt, answer, 3, "fault schema 7 types 65\n", "65 types");
+    let attributes = repeated(rt.alloc(), "(a boolean)", 257)?;
+    let ty = format!(in rt.alloc(); "(define-entity-type t () ({attributes}))")?;
+    let answer = try_text(rt.alloc(), "(define-schema s)", ty.as_str())?;
+    expect(
+        &rt,
+        answer,
+        3,
+        "fault schema 7 attributes 257\n",
+        "257 attributes",
+    );
+    Ok(())
+}
+
+#[test]
 fn faults_of_texts_are_told(rt: HostRuntime) -> Result<(), Fail> {
     expect_faults(&rt, rt.alloc(), "", faults::FAULTS)?;
     expect_faults(&rt, rt.alloc(), SCHEMA, transactions::FAULTS)
