@@ -73,6 +73,7 @@ numbers_differ n (x ∷ xs) h =
 
 -- ---- sets
 
+-- no option that goes with a set forbids null
 not_set : (w : Worded) (s : Setting) → goes_with w true s ≡ true → is_no_nulls s ≡ false
 not_set w (setting.Inverse name) g = refl
 not_set w (setting.Unique on) g = refl
@@ -159,6 +160,7 @@ module _ {X : Type 0} where
 
 -- ---- features and their attributes
 
+-- what all features have, the attributes' own ones have
 own_all : (q : Named → Bool) (attributes : List Attribute) → list_all q (flat_map named attributes) ≡ true → list_all (λ a. q (own a)) attributes ≡ true
 own_all q [] e = refl
 own_all q (a ∷ attributes) e =
@@ -218,6 +220,7 @@ clash_apart before (f ∷ fs) e =
 -- ---- features that come to a type from several types
 
 module _ (schema : Outline) (ty : ℕ) (fs : List Named) where
+  -- a feature that was found isn't lost again, so that where none is found none is ambiguous
   found_stays : (least : Named) (more : List Named) → least_ambiguous schema ty fs (Some least) more ≡ None → ⊥
   found_stays least [] e = cc
   found_stays least (f ∷ more) e =
@@ -243,18 +246,20 @@ no_image : {A B : Type 0} (f : A → B) (o : Option A) → option_map f o ≡ No
 no_image f None e = refl
 no_image f (Some x) e = absurd (cc)
 
--- two attributes that a type has, with one name: either of one owner, where check and test disagree, or of two
+-- equal texts and numbers are equal the other way round
 bytes_turned : (xs ys : List ℕ) → bytes_eq xs ys ≡ true → bytes_eq ys xs ≡ true
 bytes_turned xs ys e = (bytes_eq-Decides ys xs).1 (sym ((bytes_eq-Decides xs ys).0 e))
 
 number_turned : (m n : ℕ) → (m == n) ≡ true → (n == m) ≡ true
 number_turned m n e = grind (arith, e)
 
+-- Two attributes of a type have different names: where the type has both (pa, pb), one name (e) would be that of two
+-- features of one owner (o), or would come from two owners.
 names_apart : (pa pb o o' e e' : Bool) → (o ≡ true → o' ≡ true) → (e ≡ true → e' ≡ true) → not (o' && e') ≡ true → (not pa || not ((pb && not o) && e)) ≡ true → (not pa || (not pb || not e)) ≡ true
 names_apart false pb o o' e e' h k r s = refl
 names_apart true false o o' e e' h k r s = refl
 names_apart true true o o' false e' h k r s = refl
-names_apart true true true o' true e' h k r s = absurd (true≢false (sym (sym (ap (λ b. not (b && e')) (h refl) ∙ ap not (k refl)) ∙ r)))
+names_apart true true true o' true e' h k r s = absurd (true≢false (sym r ∙ ap (λ b. not (b && e')) (h refl) ∙ ap not (k refl)))
 names_apart true true false o' true e' h k r s = absurd (true≢false (sym s))
 
 all_not : {X : Type 0} (p : X → Bool) (xs : List X) → not (list_any p xs) ≡ true → list_all (λ x. not (p x)) xs ≡ true
@@ -265,6 +270,7 @@ all_true : {X : Type 0} (xs : List X) → list_all (λ x. true) xs ≡ true
 all_true [] = refl
 all_true (x ∷ xs) = all_true xs
 
+-- a number that no type has is of no other one
 isa_outside : (parents : List (List ℕ)) (ty owner : ℕ) → length parents ≤ ty → owner < ty → isa_within ty parents ty owner ≡ false
 isa_outside parents zero owner h k = absurd (omega (arith, k))
 isa_outside parents (suc steps) owner h k = rw (differs owner (suc steps) k, get_or_past parents (suc steps) [] h) refl
