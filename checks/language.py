@@ -1,7 +1,7 @@
 """A model of the language: schemas by number, states, statements, and what they print.
 
-It was written from the manual in docs/reference, apart from the program and from the definitions that
-the program is proved against, so that both can be compared with it. It is slow and plain.
+It restates the rules of the manual in docs/reference, and shares nothing with the program nor with the
+definitions that the program is proved against, so that both can be compared with it. It is slow and plain.
 
 A value is None, an int, a bool, a str or an Entity. A set is a list of values in order.
 """

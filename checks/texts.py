@@ -1,6 +1,6 @@
 """A model of the texts: text forms, schemas and the thin form, with the fault that is due for each input.
 
-It was written from the manual in docs/reference, apart from the program. Places are bytes from 0.
+It restates the rules of the manual in docs/reference, and shares nothing with the program. Places are bytes from 0.
 """
 
 import re

@@ -39,11 +39,6 @@ abbrev pub as_front : List Form → Option (Form × List Form)
 as_front (a ∷ rest) = Some (a, rest)
 as_front [] = None
 
--- four forms, where there are just four
-abbrev pub as_four : List Form → Option (Form × Form × Form × Form)
-as_four (a ∷ b ∷ c ∷ d ∷ []) = Some (a, b, c, d)
-as_four _ = None
-
 -- whether a name has these letters
 abbrev pub has_letters : Option (List ℕ) → List ℕ → Bool
 has_letters None word = false

@@ -13,4 +13,4 @@ pub use reader::{one_answer, read};
 pub use sqlite_items::Items;
 pub use st_text::Letters;
 pub use st_token::SexpFault;
-pub use view::{as_four, as_front, as_list, as_name, as_number, as_pair, is_word};
+pub use view::{as_front, as_list, as_name, as_number, as_pair, is_word};

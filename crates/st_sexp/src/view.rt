@@ -1,6 +1,6 @@
 ghost use Rattle.std.specs.Prelude.{◌≡◌};
 ghost use Rattle.std.specs.Option.{option_copied, option_map};
-ghost use Rattle.st_sexp.specs.Views.{as_name, as_number, as_list, as_pair, as_front, as_four, is_word};
+ghost use Rattle.st_sexp.specs.Views.{as_name, as_number, as_list, as_pair, as_front, is_word};
 
 use crate::{Form, Shape};
 use st_text::Letters;
@@ -53,16 +53,6 @@ pub fn as_front(forms: &[Form]) -> Option<(&Form, &[Form])>
     ensures { option_map (λ p. (p.0.now, p.1.now)) result ≡ as_front forms.now }
 {
     forms.split_first()
-}
-
-/// Four forms, where there are just four.
-pub fn as_four(forms: &[Form]) -> Option<(&Form, &Form, &Form, &Form)>
-    ensures { option_map (λ p. (p.0.now, p.1.now, p.2.now, p.3.now)) result ≡ as_four forms.now }
-{
-    match forms {
-        [a, b, c, d] => Some((a, b, c, d)),
-        _ => None,
-    }
 }
 
 /// Whether a form is the name with these letters.
