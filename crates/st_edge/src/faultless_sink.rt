@@ -16,9 +16,7 @@ impl FaultlessSink {
 }
 
 impl Sink for FaultlessSink {
-    ghost taken = { λ _. None };
-
-    ghost faults = { λ _. 0 };
+    ghost state = { λ _. record { taken = None; faults = 0 } };
 
     fn write(&mut self, from: &[u8]) -> Result<usize, Failed>
         ensures within { IfOk result (λ n. n ≤ length from.now) }

@@ -44,9 +44,7 @@ impl MemorySink {
 }
 
 impl Sink for MemorySink {
-    ghost taken = { λ s. Some s.bytes };
-
-    ghost faults = { λ s. s.faults };
+    ghost state = { λ s. record { taken = Some s.bytes; faults = s.faults } };
 
     fn write(&mut self, from: &[u8]) -> Result<usize, Failed>
         ensures within { IfOk result (λ n. n ≤ length from.now) }

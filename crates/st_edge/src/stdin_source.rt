@@ -16,7 +16,7 @@ pub struct StdinSource<I> {
 impl<I: Read + Drop> StdinSource<I> {
     /// The standard input of the process whose runtime this is.
     pub fn new<R: Input<Reader = I> + Drop>(rt: R) -> StdinSource<I>
-        ensures { ⟦<StdinSource<I> as Source>⟧.faults result ≡ 0 }
+        ensures { (⟦<StdinSource<I> as Source>⟧.state result).faults ≡ 0 }
     {
         StdinSource {
             input: rt.reader(),
@@ -26,9 +26,7 @@ impl<I: Read + Drop> StdinSource<I> {
 }
 
 impl<I: Read + Drop> Source for StdinSource<I> {
-    ghost left = { λ s. I.remaining s.input };
-
-    ghost faults = { λ s. s.faults };
+    ghost state = { λ s. record { left = I.remaining s.input; faults = s.faults } };
 
     fn read(&mut self, into: &mut [u8]) -> Result<usize, Failed> {
         let answer = read_once(&mut self.input, into);

@@ -15,16 +15,14 @@ pub struct StdoutSink<R> {
 impl<R: Print + Drop> StdoutSink<R> {
     /// The standard output of the process whose runtime this is.
     pub fn new(rt: R) -> StdoutSink<R>
-        ensures { ⟦<StdoutSink<R> as Sink>⟧.faults result ≡ 0 }
+        ensures { (⟦<StdoutSink<R> as Sink>⟧.state result).faults ≡ 0 }
     {
         StdoutSink { rt, faults: 0 }
     }
 }
 
 impl<R: Print + Drop> Sink for StdoutSink<R> {
-    ghost taken = { λ _. None };
-
-    ghost faults = { λ s. s.faults };
+    ghost state = { λ s. record { taken = None; faults = s.faults } };
 
     fn write(&mut self, from: &[u8]) -> Result<usize, Failed> {
         let answer = write_once(&self.rt, from);
