@@ -1,32 +1,46 @@
--- What was found tells what the input is, or is refused with.
-use Rattle.std.proofs.Common.{◌≡◌, ℕ, List, Option, Some, Ok, Err, ap, ◌∙◌, codes}
-use Rattle.std.specs.Prelude.{IfSome}
+-- What was found tells what the input is, or its fault.
+use Rattle.std.proofs.Common.{◌≡◌, ◌≤◌, ℕ, List, [], ◌++◌, length, Some, Ok, Err, inl, inr, refl, take, codes}
 use Rattle.st_token.specs.declared.fault.SexpFault.{SexpFault}
-use Rattle.st_query.specs.declared.statement.Statement.{Statement}
-use Rattle.st_lattice.specs.Outline.{Outline}
-use Rattle.st_schema.specs.declared.fault.SchemaFault.{SchemaFault}
-use Rattle.statice.specs.declared.program.Found.TheVariants as found
-use Rattle.statice.specs.Form.{IsThin}
-use Rattle.statice.specs.Found.{IsFound}
-use Rattle.statice.specs.Output.{fault_line, Takes}
-use Rattle.statice.specs.Refusal.{line_of, refusal_of, IsRefused}
-use Rattle.statice.proofs.Taking.{of_input}
+use Rattle.st_sexp.specs.declared.form.Form.{Form}
+use Rattle.st_sexp.specs.Reading.{Due}
+use Rattle.st_edge.specs.States.{SourceState, SinkState, Takes}
+use Rattle.statice.specs.declared.program.Found.{Found}
+use Rattle.statice.specs.declared.program.Found.TheVariants.{Program, Faulty}
+use Rattle.statice.specs.declared.status.Ended.{Ended}
+use Rattle.statice.specs.declared.status.Ended.TheVariants.{Done, Refused, SourceFailed, SinkFailed, OutOfMemory, TooLong}
+use Rattle.statice.specs.Form.{IsThin, Program as ProgramOf}
+use Rattle.statice.specs.Found.{IsFound, IsFoundIn}
+use Rattle.statice.specs.Fault.{line_due, IsFaulty}
+use Rattle.statice.specs.Output.{fault_line, printed_by, Prints, IsFront}
+use Rattle.statice.specs.Try.{IsInput, Answers, Ends}
 
-pub thin_found : (input : List ℕ) (schema : Outline) (statements : List Statement) → IsFound input (found.Program schema statements) → IsThin input (schema, statements)
-thin_found input schema statements is = (is.0, is.1, (is.2).0)
+-- what was found in the forms of a text
+pub of_forms : (input : List ℕ) (forms : List Form) (found : Found) → Due input (Ok forms) → IsFoundIn forms found → IsFound input found
+of_forms input forms (Program schema statements) due (is, few, thin) = ((forms, due, is), few, thin)
+of_forms input forms (Faulty line) due is = (Ok forms, due, is)
 
-pub refused_fault : (input : List ℕ) (fault : SexpFault) (line : List ℕ) → IsFound input (found.TextFault fault) → refusal_of (Err fault) ≡ Some line → IsRefused input line
-refused_fault input fault line is e = (Err fault, is.0, e)
+-- a text's own fault
+pub of_fault : (input : List ℕ) (fault : SexpFault) (line : List ℕ) → Due input (Err fault) → line_due (Err fault) ≡ Some line → IsFaulty input line
+of_fault input fault line due is = (Err fault, due, is)
 
-pub refused_later : (input : List ℕ) → IsFound input found.Later → IsRefused input (fault_line (codes "later"))
-refused_later input is = (Ok (is.0), is.1, ap line_of (is.2))
+-- what a program of the thin form prints answers its input
+pub printed : (input : List ℕ) (program : ProgramOf) (old new : SinkState) (ended : Ended) → IsThin input program → Prints (printed_by program) old new ended → Answers input old new ended
+printed input program old new Done thin took = (program, thin, took)
+printed input program old new SinkFailed thin (rose, took) = (program, thin, rose, took)
+printed input program old new OutOfMemory thin (n, took) = (take n (printed_by program), inr (program, thin, n, refl), took)
+printed input program old new Refused thin never = absurd never
+printed input program old new SourceFailed thin never = absurd never
+printed input program old new TooLong thin never = absurd never
 
-pub refused_schema : (input : List ℕ) (fault : SchemaFault) (line : List ℕ) → IsFound input (found.SchemaFault fault) → line_of (Err fault) ≡ Some line → IsRefused input line
-refused_schema input fault line is e = (Ok (is.0), is.1, ap line_of ((is.2).0) ∙ e)
+-- the line of want of memory alone
+pub wanted : (input : List ℕ) (old new : SinkState) → Takes old new (fault_line (codes "memory")) → Answers input old new OutOfMemory
+wanted input old new took = ([], inl refl, took)
 
--- what was refused is what the source had left
-pub of_refused : (left : Option (List ℕ)) (bytes : List ℕ) (old new : Option (List ℕ)) (a b : ℕ) → IfSome left (λ input. bytes ≡ input)
-    → (line : List ℕ) × IsRefused bytes line × Takes old new a b line
-    → IfSome left (λ input. (line : List ℕ) × IsRefused input line × Takes old new a b line)
-of_refused left bytes old new a b is refused =
-    let P : List ℕ → Type 0 = λ input. (line : List ℕ) × IsRefused input line × Takes old new a b line in of_input left bytes P is refused
+-- an input that was read to its end and answered
+pub ends_answered : (source later : SourceState) (old new : SinkState) (input : List ℕ) (ended : Ended) → IsInput source input → length input ≤ 1048576 → Answers input old new ended → Ends source later old new ended
+ends_answered source later old new input Done is short answered = (input, is, short, answered)
+ends_answered source later old new input Refused is short answered = (input, is, short, answered)
+ends_answered source later old new input SinkFailed is short answered = (input, is, short, answered)
+ends_answered source later old new input OutOfMemory is short answered = (input, is, answered)
+ends_answered source later old new input SourceFailed is short never = absurd never
+ends_answered source later old new input TooLong is short never = absurd never

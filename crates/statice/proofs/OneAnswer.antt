@@ -12,7 +12,7 @@ use Rattle.st_schema.specs.Meaning.{schema_of}
 use Rattle.st_thin.specs.Split.{schema_part, script_part}
 use Rattle.statice.specs.Form.{Program, program_over, program_in, IsThin, IsNotThin}
 use Rattle.statice.specs.Output.{fault_line}
-use Rattle.statice.specs.Refusal.{text_line, line_of, refusal_of, IsRefused}
+use Rattle.statice.specs.Fault.{text_line, line_of, line_due, IsFaulty}
 
 -- no other answer is due
 abbrev pub NoOther : Type 0
@@ -33,14 +33,14 @@ ok_wants_none : (forms : List Form) → ¬ (WantsMemory (Ok forms))
 ok_wants_none forms m = cc m
 
 -- what has a line isn't want of memory
-refused_wants_none : (answer : Result (List Form) SexpFault) (line : List ℕ) → refusal_of answer ≡ Some line → ¬ (WantsMemory answer)
-refused_wants_none (Ok forms) line e m = cc m
-refused_wants_none (Err Memory) line e m = cc e
-refused_wants_none (Err (Unclosed place)) line e m = cc m
-refused_wants_none (Err (Stray place)) line e m = cc m
-refused_wants_none (Err (BadNumber place)) line e m = cc m
-refused_wants_none (Err (TooDeep place)) line e m = cc m
-refused_wants_none (Err (NotUtf8 place)) line e m = cc m
+faulty_wants_none : (answer : Result (List Form) SexpFault) (line : List ℕ) → line_due answer ≡ Some line → ¬ (WantsMemory answer)
+faulty_wants_none (Ok forms) line e m = cc m
+faulty_wants_none (Err Memory) line e m = cc e
+faulty_wants_none (Err (Unclosed place)) line e m = cc m
+faulty_wants_none (Err (Stray place)) line e m = cc m
+faulty_wants_none (Err (BadNumber place)) line e m = cc m
+faulty_wants_none (Err (TooDeep place)) line e m = cc m
+faulty_wants_none (Err (NotUtf8 place)) line e m = cc m
 
 -- a program has no line
 no_line : (found : Reading (Option Program)) (program : Program) (line : List ℕ) → found ≡ Ok (Some program) → line_of found ≡ Some line → ⊥
@@ -48,21 +48,21 @@ no_line (Err fault) program line is e = cc is
 no_line (Ok None) program line is e = cc is
 no_line (Ok (Some other)) program line is e = cc e
 
-pub never_both : NoOther → (input line : List ℕ) → IsRefused input line → IsNotThin input
-never_both law input line refused program thin =
-    let same : refused.0 ≡ Ok (thin.0) =
-    same_answer law input (refused.0) (Ok (thin.0)) (refused.1) (thin.1) (refused_wants_none (refused.0) line (refused.2)) (ok_wants_none (thin.0)) in
-    let P : Result (List Form) SexpFault → Type 0 = λ answer. refusal_of answer ≡ Some line in
-    no_line (program_in (thin.0)) program line (thin.2) (subst P same (refused.2))
+pub never_both : NoOther → (input line : List ℕ) → IsFaulty input line → IsNotThin input
+never_both law input line faulty program thin =
+    let same : faulty.0 ≡ Ok (thin.0) =
+    same_answer law input (faulty.0) (Ok (thin.0)) (faulty.1) (thin.1) (faulty_wants_none (faulty.0) line (faulty.2)) (ok_wants_none (thin.0)) in
+    let P : Result (List Form) SexpFault → Type 0 = λ answer. line_due answer ≡ Some line in
+    no_line (program_in (thin.0)) program line (thin.2) (subst P same (faulty.2))
 
 equal_somes : {A : Type 0} (x y : Option A) (a b : A) → x ≡ y → x ≡ Some a → y ≡ Some b → a ≡ b
 equal_somes x y a b same p q = cc
 
-pub one_line : NoOther → (input a b : List ℕ) → IsRefused input a → IsRefused input b → a ≡ b
-one_line law input a b refused other =
-    let same : refused.0 ≡ other.0 =
-    same_answer law input (refused.0) (other.0) (refused.1) (other.1) (refused_wants_none (refused.0) a (refused.2)) (refused_wants_none (other.0) b (other.2)) in
-    equal_somes (refusal_of (refused.0)) (refusal_of (other.0)) a b (ap refusal_of same) (refused.2) (other.2)
+pub one_line : NoOther → (input a b : List ℕ) → IsFaulty input a → IsFaulty input b → a ≡ b
+one_line law input a b faulty other =
+    let same : faulty.0 ≡ other.0 =
+    same_answer law input (faulty.0) (other.0) (faulty.1) (other.1) (faulty_wants_none (faulty.0) a (faulty.2)) (faulty_wants_none (other.0) b (other.2)) in
+    equal_somes (line_due (faulty.0)) (line_due (other.0)) a b (ap line_due same) (faulty.2) (other.2)
 
 same_ok : (a b : List Form) (x y : Result (List Form) SexpFault) → x ≡ Ok a → y ≡ Ok b → x ≡ y → a ≡ b
 same_ok a b x y p q e = cc
@@ -78,7 +78,7 @@ one_program law input a b thin other =
 
 -- a program, or a line
 abbrev pub Outcome : List ℕ → Type 0
-Outcome input = ((program : Program) × IsThin input program) ⊎ ((line : List ℕ) × IsRefused input line)
+Outcome input = ((program : Program) × IsThin input program) ⊎ ((line : List ℕ) × IsFaulty input line)
 
 -- what is due for the forms of a schema is never want of memory
 abbrev pub NeverMemory : Type 0

@@ -1,6 +1,8 @@
 pub mod Words
 pub mod Form
-pub mod Output
-pub mod Refusal
+pub mod Fault
 pub mod Found
+pub mod Output
+pub mod Status
+pub mod Try
 pub mod Run

@@ -1,8 +1,10 @@
 -- What a command prints.
-use Rattle.std.specs.Prelude.{◌≡◌, ℕ, ◌⊎◌, List, [], ◌∷◌, ◌++◌, take, codes, Option}
-use Rattle.std.specs.Io.KnownBytes.{Appends}
+use Rattle.std.specs.Prelude.{◌≡◌, ℕ, ◌⊎◌, List, [], ◌∷◌, ◌++◌, take, codes}
 use Rattle.st_edge.specs.Faults.{Rose}
+use Rattle.st_edge.specs.States.{SinkState, TakesAll, TakesFront, Takes}
 use Rattle.st_meaning.specs.Lines.{unrefused_output}
+use Rattle.statice.specs.declared.status.Ended.{Ended}
+use Rattle.statice.specs.declared.status.Ended.TheVariants.{Done, SinkFailed, OutOfMemory}
 use Rattle.statice.specs.Form.{Program, IsThin}
 
 -- a line that tells a fault
@@ -13,11 +15,14 @@ fault_line what = codes "fault " ++ what ++ 10 ∷ []
 abbrev pub printed_by : Program → List ℕ
 printed_by program = unrefused_output (program.0) (program.1)
 
--- how much a sink took, by what it had before and after and its counts of faults: all of a text, or a front of it
--- where its count rose
-abbrev pub Takes : Option (List ℕ) → Option (List ℕ) → ℕ → ℕ → List ℕ → Type 0
-Takes old new faults_old faults_new text = Appends old new text ⊎ (Rose faults_old faults_new × (n : ℕ) × Appends old new (take n text))
-
 -- nothing, or a front of what a program of the thin form prints
 abbrev pub IsFront : List ℕ → List ℕ → Type 0
 IsFront input text = (text ≡ []) ⊎ ((program : Program) × IsThin input program × (n : ℕ) × (text ≡ take n (printed_by program)))
+
+-- How a text is printed that comes piece by piece: all of it; a front, where the sink failed; or where memory wants a front
+-- and then the line that tells so.
+abbrev pub Prints : List ℕ → SinkState → SinkState → Ended → Type 0
+Prints text old new Done = TakesAll old new text
+Prints text old new SinkFailed = Rose old.faults new.faults × TakesFront old new text
+Prints text old new OutOfMemory = (n : ℕ) × Takes old new (take n text ++ fault_line (codes "memory"))
+Prints text old new _ = ⊥

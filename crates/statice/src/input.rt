@@ -1,4 +1,4 @@
-ghost use Rattle.std.specs.Prelude.{◌≡◌, ◌<◌, ◌≤◌, ◌++◌, ℕ, List, length, vec_len, MatchBool, IfOk, OnOk, IfSome, IsErrOf};
+ghost use Rattle.std.specs.Prelude.{◌≡◌, ◌<◌, ◌≤◌, ◌+◌, ◌++◌, ℕ, List, length, vec_len, MatchBool, IfOk, OnOk, IfSome, IsErrOf};
 ghost use Rattle.std.specs.Io.KnownBytes.{Consumes, IsAtEnd};
 ghost use Rattle.st_edge.specs.Faults.{Rose};
 ghost use Rattle.statice.specs.declared.input.InputFault.TheVariants.{Memory};
@@ -40,13 +40,13 @@ impl<T: Drop> From<AllocFailed<T>> for InputFault {
 
 /// Reads one block more: whether the source is at its end.
 fn read_block<S: Source>(source: &mut S, bytes: &mut Vec<u8>) -> Result<bool, InputFault>
-    requires { vec_len bytes.old ≤ 1048576 }
-    ensures taken { (more : List ℕ) × (bytes.new.items ≡ bytes.old.items ++ more) × Consumes (S.left source.old) (S.left source.new) more }
-    ensures size { vec_len bytes.new ≤ 1048577 }
-    ensures end { IfOk result (λ end. MatchBool end (IsAtEnd (S.left source.old) × (bytes.new.items ≡ bytes.old.items)) (vec_len bytes.old < vec_len bytes.new)) }
-    ensures source { IsErrOf result InputFault.Source → Rose (S.faults source.old) (S.faults source.new) }
+    requires { vec_len bytes.old ≤ MAX_INPUT }
+    ensures taken { (more : List ℕ) × (bytes.new.items ≡ bytes.old.items ++ more) × Consumes (S.state source.old).left (S.state source.new).left more }
+    ensures size { vec_len bytes.new ≤ MAX_INPUT + 1 }
+    ensures end { IfOk result (λ end. MatchBool end (IsAtEnd (S.state source.old).left × (bytes.new.items ≡ bytes.old.items)) (vec_len bytes.old < vec_len bytes.new)) }
+    ensures source { IsErrOf result InputFault.Source → Rose (S.state source.old).faults (S.state source.new).faults }
     ensures never_long { IsErrOf result InputFault.TooLong → ⊥ }
-    ensures never_falls { S.faults source.old ≤ S.faults source.new }
+    ensures never_falls { (S.state source.old).faults ≤ (S.state source.new).faults }
 {
     let mut block = [0u8; BLOCK];
     let room = MAX_INPUT + 1 - bytes.len();
@@ -63,12 +63,12 @@ fn read_block<S: Source>(source: &mut S, bytes: &mut Vec<u8>) -> Result<bool, In
 
 /// Reads a source to its end, at most one byte more than an input may have.
 pub fn read_input<S: Source>(alloc: Global, source: &mut S) -> Result<Vec<u8>, InputFault>
-    ensures size { IfOk result (λ bytes. vec_len bytes ≤ 1048576) }
-    ensures bytes { IfOk result (λ bytes. IfSome (S.left source.old) (λ input. bytes.items ≡ input)) }
-    ensures too_long { IsErrOf result InputFault.TooLong → IfSome (S.left source.old) (λ input. 1048576 < length input) }
-    ensures source { IsErrOf result InputFault.Source → Rose (S.faults source.old) (S.faults source.new) }
-    ensures reads { (read : List ℕ) × (length read ≤ 1048577) × Consumes (S.left source.old) (S.left source.new) read }
-    ensures never_falls { S.faults source.old ≤ S.faults source.new }
+    ensures size { IfOk result (λ bytes. vec_len bytes ≤ MAX_INPUT) }
+    ensures bytes { IfOk result (λ bytes. IfSome (S.state source.old).left (λ input. bytes.items ≡ input)) }
+    ensures too_long { IsErrOf result InputFault.TooLong → IfSome (S.state source.old).left (λ input. MAX_INPUT < length input) }
+    ensures source { IsErrOf result InputFault.Source → Rose (S.state source.old).faults (S.state source.new).faults }
+    ensures reads { (read : List ℕ) × (length read ≤ MAX_INPUT + 1) × Consumes (S.state source.old).left (S.state source.new).left read }
+    ensures never_falls { (S.state source.old).faults ≤ (S.state source.new).faults }
 {
     let mut bytes = Vec::new(alloc);
     while bytes.len() <= MAX_INPUT {

@@ -1,4 +1,4 @@
-ghost use Rattle.std.specs.Prelude.{◌≡◌, List, Ok, IsTrue};
+ghost use Rattle.std.specs.Prelude.{◌≡◌, ◌⊎◌, ℕ, List, Ok, IsTrue};
 ghost use Rattle.std.specs.List.{All, list_all};
 ghost use Rattle.st_sexp.specs.declared.form.Form.{Form};
 ghost use Rattle.st_lattice.specs.Outline.{Outline};
@@ -8,9 +8,12 @@ ghost use Rattle.st_state.specs.Legal.{IsLegal};
 ghost use Rattle.st_state.specs.State.{empty_state};
 ghost use Rattle.st_meaning.specs.Laws.{is_written};
 ghost use Rattle.st_meaning.specs.Runs.{states_after};
+ghost use Rattle.statice.specs.Fault.{IsFaulty};
+ghost use Rattle.statice.specs.Form.{Program, IsThin, IsNotThin};
 
 use st_meaning::laws_of_states;
-use st_schema::laws_of_schemas;
+use st_schema::{laws_of_schemas, never_memory};
+use st_sexp::one_answer;
 
 /// A database whose schema was read is legal as long as it lives: while it is new, and after each of any transactions
 /// that can be written, one after another, whether they are refused or not.
@@ -21,4 +24,17 @@ pub fn laws_of_databases()
 {
     laws_of_schemas();
     laws_of_states();
+}
+
+/// Each input is a program of the thin form or has a fault, and never both. It is one program at most, and its fault has
+/// one line at most.
+pub fn laws_of_inputs()
+    ensures some_outcome { (input : List ℕ) →
+        ((program : Program) × IsThin input program) ⊎ ((line : List ℕ) × IsFaulty input line) }
+    ensures never_both { (input line : List ℕ) → IsFaulty input line → IsNotThin input }
+    ensures one_program { (input : List ℕ) (a b : Program) → IsThin input a → IsThin input b → a ≡ b }
+    ensures one_line { (input a b : List ℕ) → IsFaulty input a → IsFaulty input b → a ≡ b }
+{
+    one_answer();
+    never_memory();
 }

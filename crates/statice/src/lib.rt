@@ -2,15 +2,17 @@
 #![tactic(auto)]
 
 mod command;
+mod fault;
 mod input;
 mod laws;
 mod line;
-mod outcome;
 mod program;
-mod refusal;
 mod run;
+mod status;
 mod words;
 
-pub use command::{Status, statice};
-pub use laws::laws_of_databases;
-pub use outcome::one_outcome;
+pub use command::statice;
+pub use laws::{laws_of_databases, laws_of_inputs};
+pub use status::{
+    BAD_WORDS, DONE, Ended, OUT_OF_MEMORY, REFUSED, SINK_FAILED, SOURCE_FAILED, Status, TOO_LONG,
+};

@@ -1,10 +1,14 @@
-ghost use Rattle.std.specs.Prelude.{◌≤◌, length, IfOk};
+ghost use Rattle.std.specs.Prelude.{◌≡◌, ◌≤◌, Some, length, IfOk};
+ghost use Rattle.statice.specs.Fault.{line_due};
 ghost use Rattle.statice.specs.Found.{IsFound, IsFoundIn};
 
+use crate::fault::{later_line, schema_fault_line, text_fault_line};
+use crate::input::MAX_INPUT;
 use st_lattice::Schema;
 use st_query::Statements;
-use st_schema::{SchemaFault, read_schema};
-use st_sexp::{Form, SexpFault, read};
+use st_schema::read_schema;
+use st_sexp::{Form, read};
+use st_text::Letters;
 use st_thin::{schema_part, script_part, thin_program};
 use std::alloc::{AllocError, Global};
 
@@ -13,12 +17,8 @@ use std::alloc::{AllocError, Global};
 pub enum Found {
     /// A program of the thin form.
     Program(Schema, Statements),
-    /// No text forms: their first fault, which is never want of memory.
-    TextFault(SexpFault),
-    /// Text forms that begin with no schema: its first fault, which is never want of memory.
-    SchemaFault(SchemaFault),
-    /// A schema, and a script that is not in the thin form.
-    Later,
+    /// No program: the line that tells its fault.
+    Faulty(Letters),
 }
 
 /// What forms are.
@@ -28,21 +28,19 @@ fn found_in(alloc: Global, forms: &[Form]) -> Result<Found, AllocError>
     match read_schema(alloc, schema_part(forms)) {
         Ok(schema) => match thin_program(alloc, &schema, script_part(forms))? {
             Some(statements) => Ok(Found::Program(schema, statements)),
-            None => Ok(Found::Later),
+            None => Ok(Found::Faulty(later_line(alloc)?)),
         },
-        Err(SchemaFault::Memory) => Err(AllocError),
-        Err(fault) => Ok(Found::SchemaFault(fault)),
+        Err(fault) => Ok(Found::Faulty(schema_fault_line(alloc, fault)?)),
     }
 }
 
 /// What an input is.
 pub fn program_of(alloc: Global, input: &[u8]) -> Result<Found, AllocError>
-    requires { length input.now ≤ 1048576 }
+    requires { length input.now ≤ MAX_INPUT }
     ensures { IfOk result (IsFound input.now) }
 {
     match read(alloc, input) {
         Ok(forms) => found_in(alloc, forms.as_slice()),
-        Err(SexpFault::Memory) => Err(AllocError),
-        Err(fault) => Ok(Found::TextFault(fault)),
+        Err(fault) => Ok(Found::Faulty(text_fault_line(alloc, fault)?)),
     }
 }

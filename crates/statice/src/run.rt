@@ -1,7 +1,7 @@
 ghost use Rattle.std.specs.Prelude.{◌≡◌, ◌+◌, ◌<◌, ◌≤◌, ℕ, List, length, take, IfOk, IsErrOf, OnOk, OnErr};
 ghost use Rattle.std.specs.List.{All};
-ghost use Rattle.std.specs.Io.KnownBytes.{Appends};
 ghost use Rattle.st_edge.specs.Faults.{Rose};
+ghost use Rattle.st_edge.specs.States.{TakesAll, TakesFront};
 ghost use Rattle.st_meaning.specs.Lines.{turn_lines, unrefused_output};
 ghost use Rattle.st_meaning.specs.Statements.{does};
 ghost use Rattle.st_script.specs.Run.{present, IsPresent, HasRoom};
@@ -42,11 +42,11 @@ impl<T: Drop> From<AllocFailed<T>> for RunFault {
 
 /// Writes a line, all of it or a front.
 fn print<K: Sink>(sink: &mut K, text: &[u8]) -> Result<(), RunFault>
-    ensures ok { OnOk result (Appends (K.taken sink.old) (K.taken sink.new) text.now) }
-    ensures err { OnErr result ((n : ℕ) × (n ≤ length text.now) × Appends (K.taken sink.old) (K.taken sink.new) (take n text.now)) }
-    ensures sink { IsErrOf result RunFault.Sink → Rose (K.faults sink.old) (K.faults sink.new) }
+    ensures ok { OnOk result (TakesAll (K.state sink.old) (K.state sink.new) text.now) }
+    ensures err { OnErr result ((n : ℕ) × (n ≤ length text.now) × TakesAll (K.state sink.old) (K.state sink.new) (take n text.now)) }
+    ensures sink { IsErrOf result RunFault.Sink → Rose (K.state sink.old).faults (K.state sink.new).faults }
     ensures never_memory { IsErrOf result RunFault.Memory → ⊥ }
-    ensures never_falls { K.faults sink.old ≤ K.faults sink.new }
+    ensures never_falls { (K.state sink.old).faults ≤ (K.state sink.new).faults }
 {
     match write_all(sink, text) {
         Ok(()) => Ok(()),
@@ -66,12 +66,12 @@ fn take_turn<K: Sink>(
     requires room { HasRoom plain.old }
     requires thin { IsThinStatement statement.now }
     ensures ran { OnOk result (IsPresent (does (present plain.old variables.old.items) statement.now) plain.new variables.new.items) }
-    ensures ok { OnOk result (Appends (K.taken sink.old) (K.taken sink.new)
+    ensures ok { OnOk result (TakesAll (K.state sink.old) (K.state sink.new)
         (turn_lines turn (present plain.old variables.old.items) statement.now)) }
     ensures err { OnErr result ((n : ℕ) × (n ≤ length (turn_lines turn (present plain.old variables.old.items) statement.now))
-        × Appends (K.taken sink.old) (K.taken sink.new) (take n (turn_lines turn (present plain.old variables.old.items) statement.now))) }
-    ensures sink { IsErrOf result RunFault.Sink → Rose (K.faults sink.old) (K.faults sink.new) }
-    ensures never_falls { K.faults sink.old ≤ K.faults sink.new }
+        × TakesAll (K.state sink.old) (K.state sink.new) (take n (turn_lines turn (present plain.old variables.old.items) statement.now))) }
+    ensures sink { IsErrOf result RunFault.Sink → Rose (K.state sink.old).faults (K.state sink.new).faults }
+    ensures never_falls { (K.state sink.old).faults ≤ (K.state sink.new).faults }
 {
     let answered = step(alloc, plain, variables, statement)?;
     let text = answer_lines(alloc, turn, answered.as_slice())?;
@@ -90,10 +90,10 @@ pub fn run<K: Sink>(
 ) -> Result<(), RunFault>
     requires few { length statements.now ≤ 4096 }
     requires thin { All IsThinStatement statements.now }
-    ensures ok { OnOk result (Appends (K.taken sink.old) (K.taken sink.new) (unrefused_output schema statements.now)) }
-    ensures err { OnErr result ((n : ℕ) × Appends (K.taken sink.old) (K.taken sink.new) (take n (unrefused_output schema statements.now))) }
-    ensures sink { IsErrOf result RunFault.Sink → Rose (K.faults sink.old) (K.faults sink.new) }
-    ensures never_falls { K.faults sink.old ≤ K.faults sink.new }
+    ensures ok { OnOk result (TakesAll (K.state sink.old) (K.state sink.new) (unrefused_output schema statements.now)) }
+    ensures err { OnErr result (TakesFront (K.state sink.old) (K.state sink.new) (unrefused_output schema statements.now)) }
+    ensures sink { IsErrOf result RunFault.Sink → Rose (K.state sink.old).faults (K.state sink.new).faults }
+    ensures never_falls { (K.state sink.old).faults ≤ (K.state sink.new).faults }
 {
     let mut plain = Plain::new(alloc, schema)?;
     let mut variables = Vec::new(alloc);

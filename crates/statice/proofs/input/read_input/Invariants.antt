@@ -8,8 +8,8 @@ invariant-loop-source g l =
     let source = g.S.Source in
     record {
       size : vec_len l.bytes ≤ 1048577;
-      taken : Consumes (source.left l.fn.source) (source.left l.source) l.bytes.items;
-      counted : source.faults l.fn.source ≤ source.faults l.source;
+      taken : Consumes (source.state l.fn.source).left (source.state l.source).left l.bytes.items;
+      counted : (source.state l.fn.source).faults ≤ (source.state l.source).faults;
     }
 
 abbrev pub decreases-loop-source : goal.decreases-loop-source

@@ -1,5 +1,5 @@
 use Rattle.statice.proofs.OneAnswer.{never_both, one_line, one_program, some_outcome}
-use Rattle.statice.proofs.outcome.one_outcome.Goals as goal
+use Rattle.statice.proofs.laws.laws_of_inputs.Goals as goal
 
 pub returns : goal.returns
 returns c = record {

@@ -1,4 +1,4 @@
--- What an input is refused for, and the line that tells it.
+-- The fault of an input that is no program, and the line that tells it.
 use Rattle.std.specs.Prelude.{◌≡◌, ℕ, List, [], ◌∷◌, ◌++◌, flat_map, codes, Option, Some, None, Result, Ok, Err}
 use Rattle.std.specs.Option.{option_map}
 use Rattle.std.specs.Fmt.{decimal}
@@ -54,19 +54,15 @@ line_of (Err fault) = option_map schema_line (schema_fault fault)
 line_of (Ok None) = Some (fault_line (codes "later"))
 line_of (Ok (Some program)) = None
 
--- the line that forms are refused with; none where they are a program of the thin form
+-- the line that tells the fault of forms; none where they are a program of the thin form
 abbrev pub forms_line : List Form → Option (List ℕ)
 forms_line forms = line_of (program_in forms)
 
 -- the line that is due for what a text is read as: that of its fault, or of its forms
-abbrev pub refusal_of : Result (List Form) SexpFault → Option (List ℕ)
-refusal_of (Err fault) = option_map text_line (text_fault fault)
-refusal_of (Ok forms) = forms_line forms
+abbrev pub line_due : Result (List Form) SexpFault → Option (List ℕ)
+line_due (Err fault) = option_map text_line (text_fault fault)
+line_due (Ok forms) = forms_line forms
 
--- the input is refused with the line: what is due for it as a text has this line
-abbrev pub IsRefused : List ℕ → List ℕ → Type 0
-IsRefused input line = (answer : Result (List Form) SexpFault) × Due input answer × (refusal_of answer ≡ Some line)
-
--- the line is one that inputs are refused with
-abbrev pub IsRefusal : List ℕ → Type 0
-IsRefusal line = (answer : Result (List Form) SexpFault) × (refusal_of answer ≡ Some line)
+-- the input is no program, and this is the line that tells its fault: what is due for it as a text has this line
+abbrev pub IsFaulty : List ℕ → List ℕ → Type 0
+IsFaulty input line = (answer : Result (List Form) SexpFault) × Due input answer × (line_due answer ≡ Some line)

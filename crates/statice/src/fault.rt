@@ -1,7 +1,8 @@
 //! The lines of a text's and a schema's faults.
-ghost use Rattle.std.specs.Prelude.{◌≡◌, [], ◌∷◌, ◌++◌, flat_map, Some, Err, IfOk, OnOk};
+ghost use Rattle.std.specs.Prelude.{◌≡◌, [], ◌∷◌, ◌++◌, codes, flat_map, Some, Err, IfOk, OnOk};
 ghost use Rattle.std.specs.Fmt.{decimal};
-ghost use Rattle.statice.specs.Refusal.{text_fault, text_line, counted_word, schema_fault, schema_line, line_of, refusal_of};
+ghost use Rattle.statice.specs.Output.{fault_line};
+ghost use Rattle.statice.specs.Fault.{text_fault, text_line, counted_word, schema_fault, schema_line, line_of, line_due};
 
 use itoa::Buffer;
 use sqlite_items::Items;
@@ -38,7 +39,7 @@ fn text_line(alloc: Global, number: u8, place: u32) -> Result<Letters, AllocErro
 
 /// The line of a text's fault; want of memory is told as such.
 pub fn text_fault_line(alloc: Global, fault: SexpFault) -> Result<Letters, AllocError>
-    ensures { IfOk result (λ line. refusal_of (Err fault) ≡ Some line) }
+    ensures { IfOk result (λ line. line_due (Err fault) ≡ Some line) }
 {
     match text_fault(fault) {
         Some((number, place)) => text_line(alloc, number, place),
@@ -164,4 +165,11 @@ pub fn schema_fault_line(alloc: Global, fault: SchemaFault) -> Result<Letters, A
         Some((number, fields)) => schema_line(alloc, number, fields.as_slice()),
         None => Err(AllocError),
     }
+}
+
+/// The line for a script that is not in the thin form.
+pub fn later_line(alloc: Global) -> Result<Letters, AllocError>
+    ensures { IfOk result (λ line. line ≡ fault_line (codes "later")) }
+{
+    Letters::from_text(alloc, "fault later\n")
 }

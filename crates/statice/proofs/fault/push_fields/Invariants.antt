@@ -1,5 +1,5 @@
 use Rattle.std.proofs.Common.{◌≡◌, ◌∷◌, ◌++◌, drop, flat_map}
-use Rattle.statice.proofs.refusal.push_fields.Given as goal
+use Rattle.statice.proofs.fault.push_fields.Given as goal
 
 -- what was written, and what is left to write
 abbrev pub invariant-loop-field : goal.invariant-loop-field
