@@ -1,4 +1,4 @@
-//! Which types are of which, as a table.
+//! Which types descend from which, as a table.
 ghost use Rattle.std.specs.Prelude.{◌≡◌, ◌<◌, ◌≤◌, [], false, length, slice_index_or, IfOk};
 ghost use Rattle.std.specs.List.{list_any};
 ghost use Rattle.st_lattice.specs.Outline.{AreEarlier};
@@ -9,10 +9,10 @@ use sqlite_items::Items;
 use std::alloc::{AllocError, Global};
 
 /// For each type, which types it is of.
-pub(crate) type Rows = Items<Items<bool>>;
+pub(crate) type Descents = Items<Items<bool>>;
 
 /// Whether a type is of another, as the table has it; false outside it.
-pub(crate) fn is_of(rows: &[Items<bool>], ty: u16, ancestor: u16) -> bool
+pub(crate) fn said(rows: &[Items<bool>], ty: u16, ancestor: u16) -> bool
     ensures { result ≡ said rows.now ty ancestor }
 {
     match rows.get(ty as usize) {
@@ -34,7 +34,7 @@ fn bit_at(row: &[bool], ancestor: u16) -> bool
 fn any_of(rows: &[Items<bool>], types: &[u16], ancestor: u16) -> bool
     ensures { result ≡ list_any (λ p. said rows.now p ancestor) types.now }
 {
-    types.iter().any(|ty| is_of(rows, *ty, ancestor))
+    types.iter().any(|ty| said(rows, *ty, ancestor))
 }
 
 /// Whether a type is of another, from the rows of its parents.
@@ -69,7 +69,7 @@ fn parents_at(parents: &[Numbers], ty: u16) -> &[u16]
 }
 
 /// The table of types whose parents are given.
-pub(crate) fn rows_of(alloc: Global, parents: &[Numbers]) -> Result<Rows, AllocError>
+pub(crate) fn descents_of(alloc: Global, parents: &[Numbers]) -> Result<Descents, AllocError>
     requires few { length parents.now ≤ 64 }
     requires earlier { AreEarlier parents.now }
     ensures { IfOk result (λ rows. rows ≡ descent_rows parents.now (length parents.now) (length parents.now)) }

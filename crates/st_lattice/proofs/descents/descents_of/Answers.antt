@@ -2,7 +2,7 @@ use Rattle.std.proofs.Common.{◌≡◌, ◌∙◌, arith, refl, length, map}
 use Rattle.std.proofs.lemmas.List.FromFn.{map-range_with_len_more}
 use Rattle.st_lattice.specs.Lattice.{isa_by, below}
 use Rattle.st_lattice.proofs.Lattices.{row_is}
-use Rattle.st_lattice.proofs.rows.rows_of.Goals as goal
+use Rattle.st_lattice.proofs.descents.descents_of.Goals as goal
 
 pub loop-ty-preserved : goal.loop-ty-preserved
 loop-ty-preserved c =

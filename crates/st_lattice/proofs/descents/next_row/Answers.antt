@@ -1,7 +1,7 @@
 use Rattle.std.proofs.Common.{arith, refl}
 use Rattle.std.proofs.lemmas.List.FromFn.{map-range_with_len_more}
 use Rattle.st_lattice.specs.Lattice.{says}
-use Rattle.st_lattice.proofs.rows.next_row.Goals as goal
+use Rattle.st_lattice.proofs.descents.next_row.Goals as goal
 
 pub loop-ancestor-preserved : goal.loop-ancestor-preserved
 loop-ancestor-preserved c =

@@ -1,6 +1,6 @@
 use Rattle.std.proofs.Common.{◌<◌, ◌≤◌, length, arith, sym}
 use Rattle.st_lattice.proofs.Outside.{no_ancestor}
-use Rattle.st_lattice.proofs.schema.Schema.is_of.Goals as goal
+use Rattle.st_lattice.proofs.schema.Schema.isa.Goals as goal
 
 pub returns-then-count-ancestor : goal.returns-then-count-ancestor
 returns-then-count-ancestor c =
