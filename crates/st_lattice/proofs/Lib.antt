@@ -3,3 +3,4 @@ mod Lattices
 mod Found
 mod Within
 mod Outside
+mod Rising

@@ -1,5 +1,5 @@
 -- The types of features are types of the schema.
-use Rattle.std.proofs.Common.{ℕ, ◌<◌, List, [], ◌∷◌, Option, Some, None, Result, Ok, Err, IfOk, arith, All}
+use Rattle.std.proofs.Common.{ℕ, ◌<◌, List, [], ◌∷◌, Option, Some, None, arith, All}
 use Rattle.std.specs.Prelude.{flat_map}
 use Rattle.std.proofs.lemmas.List.Elements.{All-head, All-tail, All-append, All-cons}
 use Rattle.st_values.specs.declared.value.Kind.{Kind}
@@ -31,7 +31,3 @@ all_within n (a ∷ attributes) os ks =
     All-append (λ (f : Named). f.ty < n) (named a) (flat_map named attributes)
     (named_within n a (All-head (λ (x : Attribute). x.owner < n) a attributes os) (All-head (λ (x : Attribute). IsWithin n x.kind) a attributes ks))
     (all_within n attributes (All-tail (λ (x : Attribute). x.owner < n) a attributes os) (All-tail (λ (x : Attribute). IsWithin n x.kind) a attributes ks))
-
-pub if_ok : {T E : Type 0} (r : Result T E) (P Q : T → Type 0) → ((x : T) → P x → Q x) → IfOk r P → IfOk r Q
-if_ok (Ok x) P Q h p = h x p
-if_ok (Err e) P Q h p = tt

@@ -39,9 +39,9 @@ abbrev pub is_called : List (List ℕ) → List ℕ → Named → Bool
 is_called names name f = bytes_eq name (qualified_by names f.ty f.name)
 
 -- the first of some features with a qualified name
-abbrev pub called : List (List ℕ) → List ℕ → List Named → Option Feature
-called names name fs = option_map (λ f. f.feature) (find (is_called names name) fs)
+abbrev pub first_called : List (List ℕ) → List ℕ → List Named → Option Feature
+first_called names name fs = option_map (λ f. f.feature) (find (is_called names name) fs)
 
 -- the feature with a qualified name
 abbrev pub lookup : Outline → List ℕ → Option Feature
-lookup schema name = called schema.names name (features schema)
+lookup schema name = first_called schema.names name (features schema)

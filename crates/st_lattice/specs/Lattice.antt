@@ -1,7 +1,8 @@
 -- Which types are of which, and which attributes a type has from those that it descends from.
-use Rattle.std.specs.Prelude.{ℕ, zero, suc, Bool, false, ◌==◌, ◌||◌, ◌&&◌, List, [], length, map, filter, find, slice_index_or, Option}
+use Rattle.std.specs.Prelude.{ℕ, zero, suc, Bool, false, ◌==◌, ◌||◌, ◌&&◌, List, [], length, map, filter, find, slice_index_or, nat_lt, Option}
 use Rattle.std.specs.List.{list_any, range_with_len}
 use Rattle.std.specs.Str.{bytes_eq}
+use Rattle.st_values.specs.Arranged.{arranged}
 use Rattle.st_lattice.specs.declared.attribute.Attribute.{Attribute}
 use Rattle.st_lattice.specs.Outline.{Outline}
 
@@ -44,6 +45,10 @@ next_row rows above count ty = map (says rows above ty) (below count)
 abbrev pub ancestors : Outline → ℕ → List ℕ
 ancestors schema ty = filter (isa schema ty) (below (length schema.names))
 
+-- the type and all that descend from it, ascending
+abbrev pub descendants : Outline → ℕ → List ℕ
+descendants schema ty = filter (λ t. isa schema t ty) (below (length schema.names))
+
 -- the attributes of a type, its own and inherited ones, in text order
 abbrev pub attributes_in : Outline → ℕ → List Attribute
 attributes_in schema ty = filter (λ a. isa schema ty a.owner) schema.attributes
@@ -55,3 +60,7 @@ attributes_of schema ty = map (λ a. a.number) (attributes_in schema ty)
 -- the attribute of a type with a short name
 abbrev pub attribute_of : Outline → ℕ → List ℕ → Option Attribute
 attribute_of schema ty name = find (λ a. isa schema ty a.owner && bytes_eq a.name name) schema.attributes
+
+-- the attributes in the order of their numbers
+abbrev pub by_number : Outline → List Attribute
+by_number schema = arranged (λ a b. nat_lt a.number b.number) schema.attributes

@@ -1,6 +1,7 @@
 pub mod Outline
 pub mod Lattice
-pub mod Plain
+pub mod Consistent
 pub mod Features
+pub mod Called
 pub mod Stores
 pub mod Made

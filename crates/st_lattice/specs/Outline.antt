@@ -38,6 +38,10 @@ qualified_by names ty name = slice_index_or names ty [] ++ 46 ∷ name
 abbrev pub qualified : Outline → ℕ → List ℕ → List ℕ
 qualified schema ty name = qualified_by schema.names ty name
 
+-- the qualified name of an attribute
+abbrev pub attribute_name : Outline → Attribute → List ℕ
+attribute_name schema a = qualified schema a.owner a.name
+
 -- each parent of a type stands before it
 abbrev pub AreEarlier : List (List ℕ) → Type 0
 AreEarlier parents = (ty : ℕ) → All (λ p. p < ty) (slice_index_or parents ty [])

@@ -1,5 +1,5 @@
 -- What is stored for a schema, by number, and how wide a row of a type is.
-use Rattle.std.specs.Prelude.{ℕ, ◌+◌, ◌*◌, Bool, false, ◌||◌, if◌then◌else◌, List, ◌++◌, length, map, filter, Option, Some, None, is_some}
+use Rattle.std.specs.Prelude.{ℕ, ◌+◌, ◌*◌, Bool, false, ◌||◌, if◌then◌else◌, List, [], ◌∷◌, ◌++◌, length, map, filter, Option, Some, None, is_some}
 use Rattle.std.specs.List.{sum_by}
 use Rattle.st_values.specs.declared.value.Kind.{Kind}
 use Rattle.st_values.specs.declared.value.Kind.TheVariants as kind
@@ -7,7 +7,7 @@ use Rattle.st_lattice.specs.declared.attribute.Attribute.{Attribute}
 use Rattle.st_lattice.specs.declared.stores.StoreKind.{StoreKind}
 use Rattle.st_lattice.specs.declared.stores.StoreKind.TheVariants.{Extent, Set, Index, Inverse, Column}
 use Rattle.st_lattice.specs.Outline.{Outline, attribute}
-use Rattle.st_lattice.specs.Lattice.{below, attributes_in}
+use Rattle.st_lattice.specs.Lattice.{below, descendants, attributes_in}
 
 -- the number of a kind of stores
 abbrev pub kind_number : StoreKind → ℕ
@@ -47,6 +47,34 @@ abbrev pub stores_of : Outline → List ℕ
 stores_of schema =
     map (store Extent) (below (length schema.names)) ++ stores_below schema Set schema.next ++ stores_below schema Index schema.next
     ++ stores_below schema Inverse schema.next ++ stores_below schema Column schema.next
+
+-- the extents of a type and of all that descend from it
+abbrev pub extents : Outline → ℕ → List ℕ
+extents schema ty = map (store Extent) (descendants schema ty)
+
+-- Stores of an attribute, of which it may lack some. The values that stand apart from the rows: its set and its column.
+abbrev pub values_of : Attribute → List ℕ
+values_of a = store Set a.number ∷ store Column a.number ∷ []
+
+-- its index
+abbrev pub index_of : Attribute → List ℕ
+index_of a = store Index a.number ∷ []
+
+-- its inverse
+abbrev pub inverse_of : Attribute → List ℕ
+inverse_of a = store Inverse a.number ∷ []
+
+-- where an attribute's values are: the extents of all types that have it, and its own store of values
+abbrev pub cell : Outline → Attribute → List ℕ
+cell schema a = extents schema a.owner ++ values_of a
+
+-- all that changes with an attribute's value
+abbrev pub whole : Outline → Attribute → List ℕ
+whole schema a = cell schema a ++ index_of a ++ inverse_of a
+
+-- the same beside the extents
+abbrev pub aside : Attribute → List ℕ
+aside a = values_of a ++ index_of a ++ inverse_of a
 
 -- how many bytes the key of a value takes
 abbrev pub key_width : Kind → ℕ

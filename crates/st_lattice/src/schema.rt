@@ -5,13 +5,13 @@ ghost use Rattle.std.specs.Str.{bytes_eq};
 ghost use Rattle.st_lattice.specs.declared.attribute.Attribute.{Attribute};
 ghost use Rattle.st_lattice.specs.Outline.{IsOrderly, IsWithin, parents_of, type_name, type_named, attribute};
 ghost use Rattle.st_lattice.specs.Lattice.{isa};
-ghost use Rattle.st_lattice.specs.Features.{lookup};
-ghost use Rattle.st_lattice.specs.Made.{place_from};
+ghost use Rattle.st_lattice.specs.Features.{features, lookup};
+ghost use Rattle.st_lattice.specs.Made.{position_from};
 
-use crate::places::{self, Places};
-use crate::rows::{self, Rows};
+use crate::descents::{self, Descents};
+use crate::positions::{self, Positions};
 use crate::table::{self, Table};
-use crate::{Attribute, Feature, Numbers};
+use crate::{Attribute, Feature, Named, Numbers};
 use sqlite_items::Items;
 use st_values::Letters;
 use std::alloc::{AllocError, Global};
@@ -25,9 +25,10 @@ pub struct Schema {
     pub(crate) parents: Items<Numbers>,
     pub(crate) attributes: Items<Attribute>,
     pub(crate) next: u16,
-    rows: Rows,
+    descents: Descents,
+    features: Items<Named>,
     table: Table,
-    places: Places,
+    positions: Positions,
 }
 
 impl Model for Schema {
@@ -38,7 +39,7 @@ impl Model for Schema {
 
     ghost view = { λ it. record { name = it.name; names = it.type_names; parents = it.parents; attributes = it.attributes; next = it.next } };
 
-    ghost invariant = { λ it. IsMade (record { name = it.name; names = it.type_names; parents = it.parents; attributes = it.attributes; next = it.next }) it.rows it.table it.places };
+    ghost invariant = { λ it. IsMade (record { name = it.name; names = it.type_names; parents = it.parents; attributes = it.attributes; next = it.next }) it.descents it.features it.table it.positions };
 }
 
 impl Schema {
@@ -55,19 +56,20 @@ impl Schema {
         requires { IsOrderly (record { name = name; names = type_names; parents = parents; attributes = attributes; next = next }) }
         ensures { IfOk result (λ schema. schema ≡ record { name = name; names = type_names; parents = parents; attributes = attributes; next = next }) }
     {
-        let rows = rows::rows_of(alloc, parents.as_slice())?;
-        let features = table::features(alloc, attributes.as_slice())?;
+        let descents = descents::descents_of(alloc, parents.as_slice())?;
+        let features = table::features_of(alloc, attributes.as_slice())?;
         let table = table::table_of(alloc, type_names.as_slice(), features.as_slice())?;
-        let places = places::places_of(alloc, attributes.as_slice())?;
+        let positions = positions::positions_of(alloc, attributes.as_slice())?;
         Ok(Schema {
             name,
             type_names,
             parents,
             attributes,
             next,
-            rows,
+            descents,
+            features,
             table,
-            places,
+            positions,
         })
     }
 
@@ -150,20 +152,9 @@ impl Schema {
         Some(position as u16)
     }
 
-    /// Whether a type is another one or descends from it.
+    /// Whether a type is another one or descends from it. A number that no type has is of itself alone.
     #[tactic(auto, using(crate::proofs::Lattices::said_is))]
     pub fn isa(&self, ty: u16, ancestor: u16) -> bool
-        requires ty { ty < length self.now.names }
-        requires ancestor { ancestor < length self.now.names }
-        ensures { result ≡ isa self.now ty ancestor }
-    {
-        rows::is_of(self.rows.as_slice(), ty, ancestor)
-    }
-
-    /// Whether a type is another one or descends from it, also of numbers that no type has: such a number is of itself
-    /// alone.
-    #[tactic(auto, using(crate::proofs::Lattices::said_is))]
-    pub fn is_of(&self, ty: u16, ancestor: u16) -> bool
         ensures { result ≡ isa self.now ty ancestor }
     {
         let count = self.type_names.len();
@@ -173,7 +164,15 @@ impl Schema {
         if count <= ancestor as usize {
             return ty == ancestor;
         }
-        rows::is_of(self.rows.as_slice(), ty, ancestor)
+        descents::said(self.descents.as_slice(), ty, ancestor)
+    }
+
+    /// All features, in text order: each attribute, and behind it its inverse.
+    pub fn features(&self) -> &[Named]
+        ensures value { result.now ≡ features self.now }
+        ensures within { All (λ f. f.ty < length self.now.names) result.now }
+    {
+        self.features.as_slice()
     }
 
     /// The feature with this qualified name, `type.name`.
@@ -189,25 +188,25 @@ impl Schema {
     {
         attribute_in(
             self.attributes.as_slice(),
-            places::find(&self.places, number),
+            positions::find(&self.positions, number),
         )
     }
 }
 
-/// The attribute at a place, where it has one.
-fn attribute_in(attributes: &[Attribute], place: Option<u16>) -> Option<&Attribute>
-    ensures { (number : ℕ) → place ≡ place_from 0 number attributes.now → option_copied result ≡ find (λ a. a.number == number) attributes.now }
+/// The attribute at a position, if there is one.
+fn attribute_in(attributes: &[Attribute], position: Option<u16>) -> Option<&Attribute>
+    ensures { (number : ℕ) → position ≡ position_from 0 number attributes.now → option_copied result ≡ find (λ a. a.number == number) attributes.now }
 {
-    match place {
-        Some(place) => item_at(attributes, place),
+    match position {
+        Some(position) => item_at(attributes, position),
         None => None,
     }
 }
 
-fn item_at(attributes: &[Attribute], place: u16) -> Option<&Attribute>
-    ensures { option_copied result ≡ slice_get attributes.now place }
+fn item_at(attributes: &[Attribute], position: u16) -> Option<&Attribute>
+    ensures { option_copied result ≡ slice_get attributes.now position }
 {
-    attributes.get(place as usize)
+    attributes.get(position as usize)
 }
 
 fn position_of(names: &[Letters], name: &[u8]) -> Option<usize>

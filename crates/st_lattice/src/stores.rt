@@ -3,7 +3,7 @@ ghost use Rattle.std.specs.Prelude.{◌≡◌, ◌++◌, ◌<◌, ◌^◌, lengt
 ghost use Rattle.std.specs.Option.{option_copied};
 ghost use Rattle.st_lattice.specs.Lattice.{below};
 ghost use Rattle.st_lattice.specs.Outline.{attribute};
-ghost use Rattle.st_lattice.specs.Stores.{kind_number, store, keeps, keeps_one, stores_below, stores_of};
+ghost use Rattle.st_lattice.specs.Stores.{kind_number, store, keeps, keeps_one, stores_below, stores_of, extents, cell, whole};
 
 use crate::{Attribute, Schema};
 use sqlite_items::Items;
@@ -88,6 +88,19 @@ fn push_stores(schema: &Schema, kind: StoreKind, into: &mut StoreIds) -> Result<
     Ok(())
 }
 
+/// The extents of a type and of all that descend from it.
+fn extents(alloc: Global, schema: &Schema, ty: u16) -> Result<StoreIds, AllocError>
+    ensures { IfOk result (λ stores. stores ≡ extents schema.now ty) }
+{
+    let mut stores = Items::new(alloc);
+    for other in 0..schema.type_count() {
+        if schema.isa(other, ty) {
+            stores.push(store(StoreKind::Extent, other))?;
+        }
+    }
+    Ok(stores)
+}
+
 impl Schema {
     /// The numbers of all stores, ascending: an extent for each type, then the sets, the indexes, the inverses and the
     /// columns of attributes.
@@ -100,6 +113,27 @@ impl Schema {
         push_stores(self, StoreKind::Index, &mut stores)?;
         push_stores(self, StoreKind::Inverse, &mut stores)?;
         push_stores(self, StoreKind::Column, &mut stores)?;
+        Ok(stores)
+    }
+
+    /// Where an attribute's values are: the extents of all types that have it, and the stores of its set and its column,
+    /// of which it may have none.
+    pub fn cell(&self, alloc: Global, attribute: &Attribute) -> Result<StoreIds, AllocError>
+        ensures { IfOk result (λ stores. stores ≡ cell self.now attribute.now) }
+    {
+        let mut stores = extents(alloc, self, attribute.owner)?;
+        stores.push(store(StoreKind::Set, attribute.number))?;
+        stores.push(store(StoreKind::Column, attribute.number))?;
+        Ok(stores)
+    }
+
+    /// All that changes with an attribute's value: its cell, its index and its inverse, of which it may have none.
+    pub fn whole(&self, alloc: Global, attribute: &Attribute) -> Result<StoreIds, AllocError>
+        ensures { IfOk result (λ stores. stores ≡ whole self.now attribute.now) }
+    {
+        let mut stores = self.cell(alloc, attribute)?;
+        stores.push(store(StoreKind::Index, attribute.number))?;
+        stores.push(store(StoreKind::Inverse, attribute.number))?;
         Ok(stores)
     }
 }

@@ -2,7 +2,7 @@
 ghost use Rattle.std.specs.Prelude.{◌≡◌, ◌++◌, ℕ, List, [], Some, None, if◌then◌else◌, drop, slice_index_or, flat_map, IfOk, OnOk};
 ghost use Rattle.std.specs.Str.{bytes_eq};
 ghost use Rattle.st_lattice.specs.Outline.{qualified_by};
-ghost use Rattle.st_lattice.specs.Features.{named, inverse, is_called, called};
+ghost use Rattle.st_lattice.specs.Features.{named, inverse, is_called, first_called};
 ghost use Rattle.st_lattice.specs.Made.{entry};
 
 use crate::{Attribute, Feature, Named};
@@ -87,8 +87,11 @@ fn push_named(
 }
 
 /// The features of attributes, each attribute before its inverse.
-pub(crate) fn features(alloc: Global, attributes: &[Attribute]) -> Result<Items<Named>, AllocError>
-    ensures { IfOk result (λ features. features ≡ flat_map named attributes.now) }
+pub(crate) fn features_of(
+    alloc: Global,
+    attributes: &[Attribute],
+) -> Result<Items<Named>, AllocError>
+    ensures { IfOk result (λ found. found ≡ flat_map named attributes.now) }
 {
     let mut features = Items::new(alloc);
     for attribute in attributes {
@@ -116,7 +119,7 @@ pub(crate) fn table_of(
     names: &[Letters],
     features: &[Named],
 ) -> Result<Table, AllocError>
-    ensures { IfOk result (λ table. (name : List ℕ) → entry table name ≡ called names.now name features.now) }
+    ensures { IfOk result (λ table. (name : List ℕ) → entry table name ≡ first_called names.now name features.now) }
 {
     let mut table = BTreeMap::new(alloc);
     let mut index = features.len();

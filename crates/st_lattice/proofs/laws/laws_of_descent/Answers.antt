@@ -1,0 +1,5 @@
+use Rattle.st_lattice.proofs.Lattices.{isa_steps}
+use Rattle.st_lattice.proofs.laws.laws_of_descent.Goals as goal
+
+pub returns : goal.returns
+returns c = isa_steps
