@@ -1,2 +1,6 @@
 pub mod Ways
+pub mod Terms
+pub mod Kinds
+pub mod Written
+pub mod Footprint
 pub mod Thin

@@ -1,4 +1,5 @@
-use crate::{Term, Terms};
+use crate::copies::{copy_four, copy_three, copy_two};
+use crate::{Query, Term, Terms};
 use sqlite_items::Items;
 use st_text::Duplicate;
 use st_values::Letters;
@@ -15,78 +16,6 @@ pub struct Cell {
 
 /// A list of cells, whose names differ.
 pub type Cells = Items<Cell>;
-
-/// How two values are compared.
-#[derive(Clone, Copy, Debug, PartialEq, Eq)]
-pub enum Sign {
-    /// `=`: the two are the same.
-    Equal,
-    /// The two are not the same.
-    Differs,
-    /// `<`: the left one comes before the right one.
-    Below,
-    /// `<=`: the left one does not come after the right one.
-    AtMost,
-    /// `>`: the left one comes after the right one.
-    Above,
-    /// `>=`: the left one does not come before the right one.
-    AtLeast,
-}
-
-/// What a query asks of an entity.
-#[derive(Debug, Drop)]
-pub enum Condition {
-    /// That two values compare so.
-    Compare {
-        /// How they are compared.
-        sign: Sign,
-        /// The left value.
-        left: Term,
-        /// The right value.
-        right: Term,
-    },
-    /// That a value is null.
-    Null(Term),
-    /// That a value is not null.
-    NotNull(Term),
-    /// That a set has a value.
-    Member {
-        /// The value.
-        value: Term,
-        /// The set.
-        set: Term,
-    },
-}
-
-/// A list of conditions, all of which are asked.
-pub type Conditions = Items<Condition>;
-
-/// What entities are ordered by.
-#[derive(Debug, Drop)]
-pub struct Key {
-    /// What stands for the value that is compared.
-    pub term: Term,
-    /// Whether larger values come before smaller ones.
-    pub descending: bool,
-}
-
-/// A list of keys, the first of which comes first.
-pub type Keys = Items<Key>;
-
-/// The entities of a type for which each condition is true, in an order, and what is shown of each.
-#[derive(Debug, Drop)]
-pub struct Query {
-    /// The variable that stands for each entity in turn.
-    pub var: Letters,
-    /// The name of the type.
-    pub ty: Letters,
-    /// What is asked of each entity.
-    pub conditions: Conditions,
-    /// The order.
-    pub keys: Keys,
-    /// What is shown of each entity.
-    pub shown: Terms,
-}
 
 /// A statement of a transaction. Types are named by their names, attributes by their qualified names, but in cells
 /// and keys by their short names.
@@ -197,86 +126,49 @@ impl Duplicate for Cell {
     }
 }
 
-impl Duplicate for Sign {
-    fn copy(&self, _alloc: Global) -> Result<Sign, AllocError> {
-        Ok(*self)
-    }
-}
-
-impl Duplicate for Condition {
-    fn copy(&self, alloc: Global) -> Result<Condition, AllocError> {
-        match self {
-            Condition::Compare { sign, left, right } => Ok(Condition::Compare {
-                sign: *sign,
-                left: left.copy(alloc)?,
-                right: right.copy(alloc)?,
-            }),
-            Condition::Null(term) => Ok(Condition::Null(term.copy(alloc)?)),
-            Condition::NotNull(term) => Ok(Condition::NotNull(term.copy(alloc)?)),
-            Condition::Member { value, set } => Ok(Condition::Member {
-                value: value.copy(alloc)?,
-                set: set.copy(alloc)?,
-            }),
-        }
-    }
-}
-
-impl Duplicate for Key {
-    fn copy(&self, alloc: Global) -> Result<Key, AllocError> {
-        Ok(Key {
-            term: self.term.copy(alloc)?,
-            descending: self.descending,
-        })
-    }
-}
-
-impl Duplicate for Query {
-    fn copy(&self, alloc: Global) -> Result<Query, AllocError> {
-        Ok(Query {
-            var: self.var.copy(alloc)?,
-            ty: self.ty.copy(alloc)?,
-            conditions: self.conditions.copy(alloc)?,
-            keys: self.keys.copy(alloc)?,
-            shown: self.shown.copy(alloc)?,
-        })
-    }
-}
-
 impl Duplicate for Statement {
     fn copy(&self, alloc: Global) -> Result<Statement, AllocError> {
         match self {
-            Statement::Make { var, ty, cells } => Ok(Statement::Make {
-                var: var.copy(alloc)?,
-                ty: ty.copy(alloc)?,
-                cells: cells.copy(alloc)?,
-            }),
+            Statement::Make { var, ty, cells } => {
+                let (var, ty, cells) = copy_three(alloc, var, ty, cells)?;
+                Ok(Statement::Make { var, ty, cells })
+            }
             Statement::Set {
                 attribute,
                 target,
                 value,
-            } => Ok(Statement::Set {
-                attribute: attribute.copy(alloc)?,
-                target: target.copy(alloc)?,
-                value: value.copy(alloc)?,
-            }),
+            } => {
+                let (attribute, target, value) = copy_three(alloc, attribute, target, value)?;
+                Ok(Statement::Set {
+                    attribute,
+                    target,
+                    value,
+                })
+            }
             Statement::Add {
                 attribute,
                 target,
                 value,
-            } => Ok(Statement::Add {
-                attribute: attribute.copy(alloc)?,
-                target: target.copy(alloc)?,
-                value: value.copy(alloc)?,
-            }),
+            } => {
+                let (attribute, target, value) = copy_three(alloc, attribute, target, value)?;
+                Ok(Statement::Add {
+                    attribute,
+                    target,
+                    value,
+                })
+            }
             Statement::Take {
                 attribute,
                 target,
                 value,
-            } => Ok(Statement::Take {
-                attribute: attribute.copy(alloc)?,
-                target: target.copy(alloc)?,
-                value: value.copy(alloc)?,
-            }),
+            } => {
+                let (attribute, target, value) = copy_three(alloc, attribute, target, value)?;
+                Ok(Statement::Take {
+                    attribute,
+                    target,
+                    value,
+                })
+            }
             Statement::Delete { target } => Ok(Statement::Delete {
                 target: target.copy(alloc)?,
             }),
@@ -285,21 +177,23 @@ impl Duplicate for Statement {
                 ty,
                 key,
                 value,
-            } => Ok(Statement::Find {
-                var: var.copy(alloc)?,
-                ty: ty.copy(alloc)?,
-                key: key.copy(alloc)?,
-                value: value.copy(alloc)?,
-            }),
-            Statement::Ensure { var, ty, cells } => Ok(Statement::Ensure {
-                var: var.copy(alloc)?,
-                ty: ty.copy(alloc)?,
-                cells: cells.copy(alloc)?,
-            }),
-            Statement::Let { var, value } => Ok(Statement::Let {
-                var: var.copy(alloc)?,
-                value: value.copy(alloc)?,
-            }),
+            } => {
+                let (var, ty, key, value) = copy_four(alloc, var, ty, key, value)?;
+                Ok(Statement::Find {
+                    var,
+                    ty,
+                    key,
+                    value,
+                })
+            }
+            Statement::Ensure { var, ty, cells } => {
+                let (var, ty, cells) = copy_three(alloc, var, ty, cells)?;
+                Ok(Statement::Ensure { var, ty, cells })
+            }
+            Statement::Let { var, value } => {
+                let (var, value) = copy_two(alloc, var, value)?;
+                Ok(Statement::Let { var, value })
+            }
             Statement::Print { terms } => Ok(Statement::Print {
                 terms: terms.copy(alloc)?,
             }),

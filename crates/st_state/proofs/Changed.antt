@@ -4,18 +4,19 @@ use Rattle.std.specs.Prelude.{◌==◌, not, ◌&&◌, ◌||◌, cond, find, if�
 use Rattle.std.specs.List.{list_all, list_any}
 use Rattle.st_values.specs.declared.value.EntityId.{EntityId}
 use Rattle.st_values.specs.declared.value.Value.{Value}
-use Rattle.st_values.specs.Order.{same_value}
+use Rattle.st_values.specs.Order.{same_value, same_entity}
 use Rattle.st_values.specs.Arranged.{each_pair}
-use Rattle.st_values.proofs.Placing.{both, left, right, either, differ, all-weaken, all-filter, ascends-placed, all-placed}
+use Rattle.st_values.proofs.Placing.{differ, ascends-placed}
+use Rattle.st_values.proofs.Entities.{same_entity-itself, same_value-is, same_value-itself}
+use Rattle.st_values.proofs.Tests.{not-true, one-of, first-of, other-of, never, all-each, all-two, any-kept, any-placed, pairs-placed, none-found, both, left, right, either, all-weaken, all-filter, all-placed}
 use Rattle.st_lattice.specs.declared.attribute.Attribute.{Attribute}
 use Rattle.st_lattice.specs.Outline.{attribute}
 use Rattle.st_lattice.specs.Lattice.{isa, attributes_in}
 use Rattle.st_lattice.specs.Stores.{passes}
 use Rattle.st_state.specs.declared.triple.Triple.{Triple}
-use Rattle.st_state.specs.State.{State, same_entity, is_live, triple_before, same_triple, with_triple, is_at, turned, triple_added, triple_taken, member_added, member_taken}
+use Rattle.st_state.specs.State.{State, is_live, triple_before, same_triple, with_triple, is_at, turned, triple_added, triple_taken, member_added, member_taken}
 use Rattle.st_state.specs.Legal.{can_hold, is_sound, apart_at_entity, apart_in_value, is_filled, IsNearlyLegal, IsLegal}
-use Rattle.st_state.proofs.Orders.{same_entity-itself, same_value-is, same_value-itself, triple_before-strict}
-use Rattle.st_state.proofs.Tests.{not-true, one-of, first-of, other-of, never, all-each, all-two, any-kept, any-placed, pairs-placed, none-found}
+use Rattle.st_state.proofs.Orders.{triple_before-strict}
 use Rattle.st_state.proofs.Kept.{filter-nearly}
 
 -- ---- attributes with one number
@@ -69,7 +70,7 @@ module _ (s : State) (number : ℕ) (e : EntityId) (v : Value) where
   pub placed-nearly : (ts : List Triple) → IsNearlyLegal (record s { triples = ts }) → GoesWell ts → IsNearlyLegal (record s { triples = with_triple new ts })
   placed-nearly ts n w = record {
     orderly = n.orderly;
-    plain = n.plain;
+    consistent = n.consistent;
     counts = n.counts;
     live_ascends = n.live_ascends;
     triples_ascend = ascends-placed triple_before triple_before-strict new ts n.triples_ascend w.differs;
@@ -204,10 +205,10 @@ module _ (s : State) (number : ℕ) (e : EntityId) (v : Value) where
         where
           others : (x : EntityId) → list_all (λ b. not (b.number == number) || b.many) (attributes_in s.schema x.ty) ≡ true
           others x = all-filter (λ b. not (b.number == number) || b.many) (λ b. isa s.schema x.ty b.owner) s.schema.attributes
-              (found-only (λ b. b.many) number a s.schema.attributes g.nearly.plain.numbers f many)
+              (found-only (λ b. b.many) number a s.schema.attributes g.nearly.consistent.numbers f many)
 
           no_sets : (x : EntityId) → list_all (λ b. not (b.many && b.no_nulls)) (attributes_in s.schema x.ty) ≡ true
-          no_sets x = all-filter (λ b. not (b.many && b.no_nulls)) (λ b. isa s.schema x.ty b.owner) s.schema.attributes g.nearly.plain.sets
+          no_sets x = all-filter (λ b. not (b.many && b.no_nulls)) (λ b. isa s.schema x.ty b.owner) s.schema.attributes g.nearly.consistent.sets
 
           single : (x : EntityId) → list_all (λ b. not b.no_nulls || not (b.number == number)) (attributes_in s.schema x.ty) ≡ true
           single x = all-two (λ b. not (b.number == number) || b.many) (λ b. not (b.many && b.no_nulls)) (λ b. not b.no_nulls || not (b.number == number)) (attributes_in s.schema x.ty)

@@ -7,17 +7,16 @@ use Rattle.st_values.specs.declared.value.Kind.{Kind}
 use Rattle.st_values.specs.declared.value.Kind.TheVariants as kind
 use Rattle.st_values.specs.declared.value.Value.{Value}
 use Rattle.st_values.specs.declared.value.Value.TheVariants.{Null, Int, Bool as Truth, Text, Entity}
-use Rattle.st_values.specs.Order.{same_value}
-use Rattle.st_values.proofs.Placing.{both, left, right, either, all-weaken, all-filter, ascends-filter}
+use Rattle.st_values.specs.Order.{same_value, same_entity, entity_before}
+use Rattle.st_values.proofs.Entities.{same_entity-is, same_entity-itself, same_value-itself}
+use Rattle.st_values.proofs.Tests.{not-true, or-left, or-right, one-of, first-of, other-of, never, all-each, all-two, all-kept, any-kept, none-found, both, left, right, either, all-weaken, all-filter, ascends-filter}
 use Rattle.st_lattice.specs.declared.attribute.Attribute.{Attribute}
 use Rattle.st_lattice.specs.Outline.{attribute}
 use Rattle.st_lattice.specs.Lattice.{isa, attributes_in}
 use Rattle.st_lattice.specs.Stores.{passes}
 use Rattle.st_state.specs.declared.triple.Triple.{Triple}
-use Rattle.st_state.specs.State.{State, same_entity, entity_before, is_live, triple_before, is_at, turned, speaks_of, entity_deleted}
+use Rattle.st_state.specs.State.{State, is_live, triple_before, is_at, turned, speaks_of, entity_deleted}
 use Rattle.st_state.specs.Legal.{can_hold, is_counted, is_sound, apart_at_entity, apart_in_value, is_filled, IsNearlyLegal, IsLegal}
-use Rattle.st_state.proofs.Orders.{same_entity-is, same_entity-itself, same_value-itself}
-use Rattle.st_state.proofs.Tests.{not-true, or-left, or-right, one-of, first-of, other-of, never, all-each, all-two, all-kept, any-kept, none-found}
 
 pub passes-weaken : (f g : Attribute → Bool) (o : Option Attribute) → ((a : Attribute) → f a ≡ true → g a ≡ true) → passes f o ≡ true → passes g o ≡ true
 passes-weaken f g None h e = e
@@ -55,7 +54,7 @@ module _ (s : State) (l : List EntityId) (ts : List Triple) (k : List ℕ) where
 pub filter-nearly : (s : State) (q : Triple → Bool) → IsNearlyLegal s → IsNearlyLegal (record s { triples = filter q s.triples })
 filter-nearly s q n = record {
   orderly = n.orderly;
-  plain = n.plain;
+  consistent = n.consistent;
   counts = n.counts;
   live_ascends = n.live_ascends;
   triples_ascend = ascends-filter triple_before q s.triples n.triples_ascend;
@@ -95,7 +94,7 @@ module _ (s : State) (e : EntityId) where
   pub deleted-nearly : IsNearlyLegal s → IsNearlyLegal (entity_deleted s e)
   deleted-nearly n = record {
     orderly = n.orderly;
-    plain = n.plain;
+    consistent = n.consistent;
     counts = n.counts;
     live_ascends = ascends-filter entity_before kept s.live n.live_ascends;
     triples_ascend = ascends-filter triple_before unsaid s.triples n.triples_ascend;

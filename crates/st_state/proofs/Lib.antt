@@ -1,5 +1,4 @@
 pub mod Orders
-pub mod Tests
 pub mod Kept
 pub mod Changed
 pub mod Set

@@ -4,13 +4,14 @@ use Rattle.std.specs.Prelude.{◌==◌, ◌&&◌, ◌||◌, nat_lt, nat_le, slic
 use Rattle.std.specs.List.{list_any}
 use Rattle.std.proofs.lemmas.List.{get_or-set_same, get_or-set_other, length-replicate}
 use Rattle.st_values.specs.declared.value.EntityId.{EntityId}
-use Rattle.st_values.proofs.Placing.{both, left, right, either, differ, all-weaken, ascends-placed, all-placed}
+use Rattle.st_values.specs.Order.{same_entity, entity_before}
+use Rattle.st_values.proofs.Placing.{differ, ascends-placed}
+use Rattle.st_values.proofs.Entities.{same_entity-itself, entity_before-strict}
+use Rattle.st_values.proofs.Tests.{one-of, first-of, any-placed, both, left, right, either, all-weaken, all-placed}
 use Rattle.st_lattice.specs.Outline.{Outline, IsOrderly}
-use Rattle.st_lattice.specs.Plain.{IsPlain}
-use Rattle.st_state.specs.State.{State, empty_state, same_entity, is_live, entity_before, next_entity, entity_made}
+use Rattle.st_lattice.specs.Consistent.{IsConsistent}
+use Rattle.st_state.specs.State.{State, empty_state, is_live, next_entity, entity_made}
 use Rattle.st_state.specs.Legal.{is_counted, is_sound, IsNearlyLegal, IsLegal}
-use Rattle.st_state.proofs.Orders.{same_entity-itself, entity_before-strict}
-use Rattle.st_state.proofs.Tests.{one-of, first-of, any-placed}
 use Rattle.st_state.proofs.Kept.{is_sound-moved}
 
 less-is : (x y : ℕ) → nat_lt x y ≡ true → x < y
@@ -76,7 +77,7 @@ module _ (s : State) (ty : ℕ) (n : IsNearlyLegal s) (there : ty < length s.sch
   pub made-nearly : IsNearlyLegal (entity_made s ty)
   made-nearly = record {
     orderly = n.orderly;
-    plain = n.plain;
+    consistent = n.consistent;
     counts = length-set s.last ty (slice_index s.last ty + 1) ∙ n.counts;
     live_ascends = ascends-placed entity_before entity_before-strict fresh s.live n.live_ascends (all-weaken (is_counted s) (differ entity_before fresh) unlike s.live n.counted);
     triples_ascend = n.triples_ascend;
@@ -90,8 +91,8 @@ module _ (s : State) (ty : ℕ) (n : IsNearlyLegal s) (there : ty < length s.sch
 length-zeros : (k : ℕ) → length {A = ℕ} (replicate k 0) ≡ k
 length-zeros k = grind (arith, length-replicate)
 
-pub empty-legal : (schema : Outline) → IsOrderly schema → IsPlain schema → IsLegal (empty_state schema)
+pub empty-legal : (schema : Outline) → IsOrderly schema → IsConsistent schema → IsLegal (empty_state schema)
 empty-legal schema o p = record {
-  nearly = record { orderly = o; plain = p; counts = length-zeros (length schema.names); live_ascends = refl; triples_ascend = refl; counted = refl; sound = refl; single = refl; unique = refl };
+  nearly = record { orderly = o; consistent = p; counts = length-zeros (length schema.names); live_ascends = refl; triples_ascend = refl; counted = refl; sound = refl; single = refl; unique = refl };
   filled = refl;
 }

@@ -3,9 +3,8 @@ use Rattle.std.proofs.Common.{◌≡◌, Bool, true, false, List, [], ◌∷◌,
 use Rattle.std.specs.Prelude.{◌==◌, not, ◌&&◌, ◌||◌, cond, map, filter, find}
 use Rattle.std.specs.List.{list_all}
 use Rattle.st_values.specs.Arranged.{each_pair}
-use Rattle.st_values.proofs.Placing.{both, left, right, either}
+use Rattle.st_values.proofs.Tests.{not-true, other-of, never, both, left, right, either}
 use Rattle.st_lattice.specs.declared.attribute.Attribute.{Attribute}
-use Rattle.st_state.proofs.Tests.{not-true, other-of, never}
 use Rattle.st_state.proofs.Changed.{number-is, number-itself, other_number}
 
 -- an element of a list

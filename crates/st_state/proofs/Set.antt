@@ -5,17 +5,17 @@ use Rattle.std.specs.List.{list_all, list_any}
 use Rattle.st_values.specs.declared.value.EntityId.{EntityId}
 use Rattle.st_values.specs.declared.value.Value.{Value}
 use Rattle.st_values.specs.declared.value.Value.TheVariants.{Null, Int, Bool as Truth, Text, Entity}
-use Rattle.st_values.specs.Order.{same_value}
-use Rattle.st_values.proofs.Placing.{both, left, right, either, differ, all-weaken, all-filter, all-placed}
+use Rattle.st_values.specs.Order.{same_value, same_entity}
+use Rattle.st_values.proofs.Placing.{differ}
+use Rattle.st_values.proofs.Entities.{same_entity-is, same_entity-itself}
+use Rattle.st_values.proofs.Tests.{not-true, one-of, first-of, other-of, never, all-two, all-kept, all-filtered, all-each, any-kept, any-placed, both, left, right, either, all-weaken, all-filter, all-placed}
 use Rattle.st_lattice.specs.declared.attribute.Attribute.{Attribute}
 use Rattle.st_lattice.specs.Outline.{attribute}
 use Rattle.st_lattice.specs.Lattice.{isa, attributes_in}
 use Rattle.st_lattice.specs.Stores.{passes}
 use Rattle.st_state.specs.declared.triple.Triple.{Triple}
-use Rattle.st_state.specs.State.{State, same_entity, is_live, triple_before, with_triple, is_at, with_value, attribute_set}
+use Rattle.st_state.specs.State.{State, is_live, triple_before, with_triple, is_at, with_value, attribute_set}
 use Rattle.st_state.specs.Legal.{can_hold, apart_at_entity, apart_in_value, is_filled, IsNearlyLegal, IsLegal}
-use Rattle.st_state.proofs.Orders.{same_entity-is, same_entity-itself}
-use Rattle.st_state.proofs.Tests.{not-true, one-of, first-of, other-of, never, all-two, all-kept, all-filtered, all-each, any-kept, any-placed}
 use Rattle.st_state.proofs.Kept.{filter-nearly}
 use Rattle.st_state.proofs.Changed.{number-is, number-itself, found-only, new, GoesWell, placed-nearly, apart, sound-new, Alone, alone-all, unlike-new, unlike-back}
 
@@ -149,7 +149,7 @@ module _ (s : State) (number : ℕ) (e : EntityId) (v : Value) where
 
         all_allowed : (x : EntityId) → list_all allowed (attributes_in s.schema x.ty) ≡ true
         all_allowed x = all-filter allowed (λ b. isa s.schema x.ty b.owner) s.schema.attributes
-            (found-only (λ b. not b.no_nulls || not (null v)) number a s.schema.attributes g.nearly.plain.numbers f no_null)
+            (found-only (λ b. not b.no_nulls || not (null v)) number a s.schema.attributes g.nearly.consistent.numbers f no_null)
 
         keeps : (x : EntityId) (b : Attribute) → (not b.no_nulls || list_any (is_at b.number x) s.triples) ≡ true → allowed b ≡ true
             → (not b.no_nulls || list_any (is_at b.number x) (attribute_set s number e v).triples) ≡ true

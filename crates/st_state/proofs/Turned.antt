@@ -8,15 +8,16 @@ use Rattle.std.specs.Ordering.{is_lt, is_eq, ordering_then}
 use Rattle.std.specs.Cmp.{IsTotalOrder, then_total, on_total}
 use Rattle.std.proofs.lemmas.List.Sorted.{IsPermutation-refl}
 use Rattle.st_values.specs.declared.value.Value.{Value}
-use Rattle.st_values.specs.Order.{entity_order, value_order, value_before, same_value}
+use Rattle.st_values.specs.Order.{entity_order, value_order, value_before, same_value, entity_before, same_entity}
 use Rattle.st_values.specs.Arranged.{each_pair, ascends, placed, arranged}
 use Rattle.st_values.proofs.Total.{entity_order_total, value_order_total}
 use Rattle.st_values.proofs.Exact.{both_equal, exact_entities, exact_values}
-use Rattle.st_values.proofs.Placing.{both, left, right, either, all-weaken, all-filter, ascends-weaken, placed-behind, placed-here, differ, IsStrict, ascends-arranged, arranged-unique, arranged-permutation}
+use Rattle.st_values.proofs.Placing.{differ, IsStrict, ascends-arranged, arranged-unique, arranged-permutation}
+use Rattle.st_values.proofs.Entities.{same_value-is, same_value-itself, strict}
+use Rattle.st_values.proofs.Tests.{not-true, one-of, first-of, other-of, never, both, left, right, either, all-weaken, all-filter, ascends-weaken, placed-behind, placed-here}
 use Rattle.st_state.specs.declared.triple.Triple.{Triple}
-use Rattle.st_state.specs.State.{entity_before, same_entity, triple_before, turned, Pair, pair_before, pair_of, converse}
-use Rattle.st_state.proofs.Orders.{entity_before-is, same_value-is, same_value-itself, triple_before-strict, strict}
-use Rattle.st_state.proofs.Tests.{not-true, one-of, first-of, other-of, never}
+use Rattle.st_state.specs.State.{triple_before, turned, Pair, pair_before, pair_of, converse}
+use Rattle.st_state.proofs.Orders.{before_then, triple_before-strict}
 use Rattle.st_state.proofs.Changed.{number-is, number-itself}
 
 -- ---- what is kept of a list in order
@@ -104,12 +105,7 @@ abbrev pair_order : Pair → Pair → Ordering
 pair_order a b = ordering_then (value_order a.value b.value) (entity_order a.entity b.entity)
 
 pair_before-is : (a b : Pair) → pair_before a b ≡ is_lt (pair_order a b)
-pair_before-is a b = ap (λ c. is_lt (value_order a.value b.value) || (is_eq (value_order a.value b.value) && c)) (entity_before-is a.entity b.entity) ∙ by (value_order a.value b.value) (entity_order a.entity b.entity)
-  where
-    by : (p q : Ordering) → (is_lt p || (is_eq p && is_lt q)) ≡ is_lt (ordering_then p q)
-    by Less q = refl
-    by Equal q = refl
-    by Greater q = refl
+pair_before-is a b = before_then (value_order a.value b.value) (entity_order a.entity b.entity)
 
 pair_order_total : IsTotalOrder pair_order
 pair_order_total = then_total (on_total (λ (p : Pair). p.value) value_order_total) (on_total (λ (p : Pair). p.entity) entity_order_total)

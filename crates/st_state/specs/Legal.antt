@@ -6,14 +6,14 @@ use Rattle.st_values.specs.declared.value.Kind.{Kind}
 use Rattle.st_values.specs.declared.value.Kind.TheVariants as kind
 use Rattle.st_values.specs.declared.value.Value.{Value}
 use Rattle.st_values.specs.declared.value.Value.TheVariants.{Int, Bool as Truth, Text, Entity}
-use Rattle.st_values.specs.Order.{same_value}
+use Rattle.st_values.specs.Order.{same_value, entity_before}
 use Rattle.st_values.specs.Arranged.{each_pair, ascends}
 use Rattle.st_lattice.specs.Outline.{Outline, IsOrderly, attribute}
 use Rattle.st_lattice.specs.Lattice.{isa, attributes_in}
-use Rattle.st_lattice.specs.Plain.{IsPlain}
+use Rattle.st_lattice.specs.Consistent.{IsConsistent}
 use Rattle.st_lattice.specs.Stores.{passes}
 use Rattle.st_state.specs.declared.triple.Triple.{Triple}
-use Rattle.st_state.specs.State.{State, is_live, entity_before, triple_before, is_at}
+use Rattle.st_state.specs.State.{State, is_live, triple_before, is_at}
 
 -- whether a value can be stored in an attribute of a kind: it is of the kind, a text is short enough, and an entity is
 -- live and of the kind's type
@@ -50,7 +50,7 @@ is_filled state e = list_all (λ a. not a.no_nulls || list_any (is_at a.number e
 -- a state that is legal, save that an attribute that admits no null may be null
 pub record IsNearlyLegal (state : State) : Type 0 where
   pub orderly : IsOrderly state.schema
-  pub plain : IsPlain state.schema
+  pub consistent : IsConsistent state.schema
   pub counts : length state.last ≡ length state.schema.names
   pub live_ascends : IsTrue (ascends entity_before state.live)
   pub triples_ascend : IsTrue (ascends triple_before state.triples)

@@ -1,3 +1,4 @@
 pub mod State
 pub mod Legal
-pub mod Rules
+pub mod Refusals
+pub mod Bases

@@ -4,7 +4,7 @@ use Rattle.std.specs.List.{list_any}
 use Rattle.st_values.specs.declared.value.EntityId.{EntityId}
 use Rattle.st_values.specs.declared.value.Value.{Value}
 use Rattle.st_values.specs.declared.value.Value.TheVariants.{Null, Entity}
-use Rattle.st_values.specs.Order.{value_before, same_value}
+use Rattle.st_values.specs.Order.{value_before, same_value, entity_before, same_entity}
 use Rattle.st_values.specs.Arranged.{placed, arranged}
 use Rattle.st_lattice.specs.Outline.{Outline}
 use Rattle.st_lattice.specs.Lattice.{isa}
@@ -21,13 +21,6 @@ pub record State : Type 0 where
 -- no entity is live, and no serial was given out
 abbrev pub empty_state : Outline → State
 empty_state schema = record { schema = schema; live = []; triples = []; last = replicate (length schema.names) 0 }
-
--- entities are ordered by type and then by serial
-abbrev pub entity_before : EntityId → EntityId → Bool
-entity_before a b = nat_lt a.ty b.ty || ((a.ty == b.ty) && nat_lt a.serial b.serial)
-
-abbrev pub same_entity : EntityId → EntityId → Bool
-same_entity a b = (a.ty == b.ty) && (a.serial == b.serial)
 
 -- whether an entity is live
 abbrev pub is_live : State → EntityId → Bool

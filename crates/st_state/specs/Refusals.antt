@@ -1,5 +1,5 @@
--- The numbers of the rules by which statements are refused.
-use Rattle.std.specs.Prelude.{ℕ}
+-- Refusals of statements: the numbers of their rules, and the first of several.
+use Rattle.std.specs.Prelude.{ℕ, List, [], ◌∷◌, Option, Some, None}
 use Rattle.st_state.specs.declared.refusal.Refusal.{Refusal}
 use Rattle.st_state.specs.declared.refusal.Refusal.TheVariants.{UnknownName, WrongType, NullNotAllowed, NotUnique, NoSuchEntity, StillNeeded, NotASet, TextTooLong, NumbersSpent, Aborted, NullEntity, TooManyPages, Full}
 
@@ -18,3 +18,9 @@ rule_number Aborted = 10
 rule_number NullEntity = 11
 rule_number (TooManyPages _) = 12
 rule_number (Full _) = 13
+
+-- the first refusal of several, if there is any
+abbrev pub first_of : List (Option Refusal) → Option Refusal
+first_of [] = None
+first_of (None ∷ others) = first_of others
+first_of (Some refusal ∷ others) = Some refusal
