@@ -1,3 +1,4 @@
 pub mod Print
 pub mod Order
 pub mod Arranged
+pub mod Names

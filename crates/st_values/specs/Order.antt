@@ -11,6 +11,14 @@ use Rattle.st_values.specs.declared.value.Value.TheVariants.{Null, Int, Bool as 
 abbrev pub entity_order : EntityId → EntityId → Ordering
 entity_order a b = ordering_then (nat_cmp a.ty b.ty) (nat_cmp a.serial b.serial)
 
+-- whether an entity stands before another one
+abbrev pub entity_before : EntityId → EntityId → Bool
+entity_before a b = is_lt (entity_order a b)
+
+-- whether two entities are the same
+abbrev pub same_entity : EntityId → EntityId → Bool
+same_entity a b = is_eq (entity_order a b)
+
 -- the place of a value's kind among the kinds
 abbrev pub kind_place : Value → ℕ
 kind_place Null = 0

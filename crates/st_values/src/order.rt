@@ -1,9 +1,6 @@
+//! The order of values and that of entities.
 ghost use Rattle.std.specs.Prelude.{◌≡◌};
-ghost use Rattle.std.specs.Cmp.{IsTotalOrder};
-ghost use Rattle.std.specs.declared.cmp.Ordering.TheVariants.{Equal};
-ghost use Rattle.st_values.specs.declared.value.EntityId.{EntityId};
-ghost use Rattle.st_values.specs.declared.value.Value.{Value};
-ghost use Rattle.st_values.specs.Order.{entity_order, value_order, value_before, same_value, kind_place};
+ghost use Rattle.st_values.specs.Order.{entity_order, entity_before, same_entity, value_order, value_before, same_value, kind_place};
 
 use crate::{EntityId, Value};
 use std::cmp::Ordering;
@@ -16,6 +13,20 @@ pub fn compare_entities(a: EntityId, b: EntityId) -> Ordering
         Ordering::Equal => a.serial.cmp(&b.serial),
         other => other,
     }
+}
+
+/// Whether an entity stands before another one.
+pub fn is_entity_before(a: EntityId, b: EntityId) -> bool
+    ensures { result ≡ entity_before a b }
+{
+    compare_entities(a, b) == Ordering::Less
+}
+
+/// Whether two entities are the same.
+pub fn is_same_entity(a: EntityId, b: EntityId) -> bool
+    ensures { result ≡ same_entity a b }
+{
+    compare_entities(a, b) == Ordering::Equal
 }
 
 fn kind_place(value: &Value) -> u8
@@ -57,12 +68,3 @@ pub fn is_same(a: &Value, b: &Value) -> bool
 {
     compare(a, b) == Ordering::Equal
 }
-
-/// Does nothing: its contract says that the orders of values and of entities are total, and that
-/// they tell two values, or two entities, apart wherever these differ.
-pub fn order_laws()
-    ensures values { IsTotalOrder value_order }
-    ensures entities { IsTotalOrder entity_order }
-    ensures exact_values { (a b : Value) → value_order a b ≡ Equal → a ≡ b }
-    ensures exact_entities { (a b : EntityId) → entity_order a b ≡ Equal → a ≡ b }
-{}

@@ -1,6 +1,6 @@
 use Rattle.st_values.proofs.Exact.{exact_entities, exact_values}
 use Rattle.st_values.proofs.Total.{entity_order_total, value_order_total}
-use Rattle.st_values.proofs.order.order_laws.Goals as goal
+use Rattle.st_values.proofs.laws.laws_of_orders.Goals as goal
 
 pub returns-clause-values : goal.returns-clause-values
 returns-clause-values c = value_order_total
