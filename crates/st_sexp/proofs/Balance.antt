@@ -4,7 +4,7 @@ use Rattle.std.specs.Option.{option_and_then}
 use Rattle.st_sexp.specs.declared.form.Form.{Form}
 use Rattle.st_sexp.specs.declared.form.Shape.TheVariants as shape
 use Rattle.st_token.specs.declared.token.Token.{Token}
-use Rattle.st_token.specs.declared.token.Sign.TheVariants as sign
+use Rattle.st_token.specs.declared.token.TokenKind.TheVariants as kind
 use Rattle.st_sexp.specs.Flat.{tokens_of, all_tokens}
 use Rattle.st_sexp.specs.Reading.{open_after, max_depth}
 use Rattle.st_sexp.proofs.Spelling.{tokens_of-name, tokens_of-number, tokens_of-quoted, tokens_of-list}
@@ -24,7 +24,7 @@ opened false inner after now is = cc
 
 list_balanced : (forms : List Form) (from to : ℕ) → Each IsBalanced forms → IsBalanced (record { shape = shape.List forms; from = from; to = to })
 list_balanced forms from to each levels now tokens is =
-    let close : List Token = record { sign = sign.Close; from = to - 1; to = to } ∷ [] in
+    let close : List Token = record { kind = kind.Close; from = to - 1; to = to } ∷ [] in
     let spelled = ap (λ front. open_after levels (front ++ tokens)) (sym (tokens_of-list forms from to)) ∙ is in
     let inside = opened (ltb (length levels) max_depth) (from ∷ levels) (λ inner. open_after inner ((all_tokens forms ++ close) ++ tokens)) now spelled in
     all_balanced forms each (from ∷ levels) now (close ++ tokens) (ap (open_after (from ∷ levels)) (sym (append_assoc (all_tokens forms) close tokens)) ∙ inside)

@@ -4,10 +4,10 @@ use Rattle.std.specs.Prelude.{ℤ, position}
 use Rattle.std.specs.List.{position_or_len}
 use Rattle.st_token.specs.declared.fault.SexpFault.{SexpFault}
 use Rattle.st_token.specs.declared.fault.SexpFault.TheVariants.{TooDeep, NotUtf8, Memory}
-use Rattle.st_token.specs.declared.token.Sign.{Sign}
-use Rattle.st_token.specs.declared.token.Sign.TheVariants as sign
+use Rattle.st_token.specs.declared.token.TokenKind.{TokenKind}
+use Rattle.st_token.specs.declared.token.TokenKind.TheVariants as kind
 use Rattle.st_token.specs.Bytes.{ends_token, is_escape, is_name_byte}
-use Rattle.st_token.specs.Scan.{Read, place, after_gap, before, escape_of, quoted, begins_number, number_of, number_sign, name_sign, word_sign, word_read, word_at, quote_read, parenthesis, token_at, next_of}
+use Rattle.st_token.specs.Scan.{Read, place, after_gap, before, escape_of, quoted, begins_number, number_of, number_kind, name_kind, word_kind, word_read, word_at, quote_read, parenthesis, token_at, next_of}
 use Rattle.st_sexp.specs.Reading.{nesting_fault, fault_at, max_depth}
 
 -- a fault of a text that is UTF-8, and not want of memory
@@ -42,25 +42,25 @@ quoted_fails total from false (b ∷ bs) =
     let more = before b (quoted total from false bs) in
     either_fails {A = List ℕ × List ℕ} (b == 34) (Ok ([], bs)) (cond (b == 92) (quoted total from true bs) more) tt (either_fails (b == 92) (quoted total from true bs) more (quoted_fails total from true bs) (before_fails b (quoted total from false bs) (quoted_fails total from false bs)))
 
-number_sign_fails : (from : ℕ) (o : Option ℤ) → Faults (number_sign from o)
-number_sign_fails from None = tt
-number_sign_fails from (Some number) = tt
+number_kind_fails : (from : ℕ) (o : Option ℤ) → Faults (number_kind from o)
+number_kind_fails from None = tt
+number_kind_fails from (Some number) = tt
 
-name_sign_fails : (from : ℕ) (word : List ℕ) (o : Option ℕ) → Faults (name_sign from word o)
-name_sign_fails from word None = tt
-name_sign_fails from word (Some i) = tt
+name_kind_fails : (from : ℕ) (word : List ℕ) (o : Option ℕ) → Faults (name_kind from word o)
+name_kind_fails from word None = tt
+name_kind_fails from word (Some i) = tt
 
-word_sign_fails : (from : ℕ) (word : List ℕ) → Faults (word_sign from word)
-word_sign_fails from word = either_fails (begins_number word) (number_sign from (number_of word)) (name_sign from word (position (λ b. not (is_name_byte b)) word)) (number_sign_fails from (number_of word)) (name_sign_fails from word (position (λ b. not (is_name_byte b)) word))
+word_kind_fails : (from : ℕ) (word : List ℕ) → Faults (word_kind from word)
+word_kind_fails from word = either_fails (begins_number word) (number_kind from (number_of word)) (name_kind from word (position (λ b. not (is_name_byte b)) word)) (number_kind_fails from (number_of word)) (name_kind_fails from word (position (λ b. not (is_name_byte b)) word))
 
-word_read_fails : (from : ℕ) (text : List ℕ) (len : ℕ) (r : Result Sign SexpFault) → Faults r → Faults (word_read from text len r)
+word_read_fails : (from : ℕ) (text : List ℕ) (len : ℕ) (r : Result TokenKind SexpFault) → Faults r → Faults (word_read from text len r)
 word_read_fails from text len (Ok s) f = tt
 word_read_fails from text len (Err fault) f = f
 
 word_at_fails : (total : ℕ) (text : List ℕ) → Faults (word_at total text)
 word_at_fails total text =
     let len = position_or_len ends_token text in
-    word_read_fails (place total text) text len (word_sign (place total text) (take len text)) (word_sign_fails (place total text) (take len text))
+    word_read_fails (place total text) text len (word_kind (place total text) (take len text)) (word_kind_fails (place total text) (take len text))
 
 quote_read_fails : (total from : ℕ) (r : Result (List ℕ × List ℕ) SexpFault) → Faults r → Faults (quote_read total from r)
 quote_read_fails total from (Ok found) f = tt
@@ -72,8 +72,8 @@ token_at_fails total (b ∷ bs) =
     let from = place total (b ∷ bs) in
     let text = quote_read total from (quoted total from false bs) in
     let other = cond (b == 34) text (word_at total (b ∷ bs)) in
-    let close = parenthesis sign.Close from bs in
-    either_fails (b == 40) (parenthesis sign.Open from bs) (cond (b == 41) close other) tt (either_fails (b == 41) close other tt (either_fails (b == 34) text (word_at total (b ∷ bs)) (quote_read_fails total from (quoted total from false bs) (quoted_fails total from false bs)) (word_at_fails total (b ∷ bs))))
+    let close = parenthesis kind.Close from bs in
+    either_fails (b == 40) (parenthesis kind.Open from bs) (cond (b == 41) close other) tt (either_fails (b == 41) close other tt (either_fails (b == 34) text (word_at total (b ∷ bs)) (quote_read_fails total from (quoted total from false bs) (quoted_fails total from false bs)) (word_at_fails total (b ∷ bs))))
 
 -- reading a token fails with no other fault
 pub next_of_fails : (total : ℕ) (text : List ℕ) → Faults (next_of total text)
@@ -84,17 +84,17 @@ abbrev MayFault : Option SexpFault → Type 0
 MayFault None = Unit {0}
 MayFault (Some fault) = IsOfTokens fault
 
-nesting_may : (s : Sign) (from : ℕ) (levels : List ℕ) → MayFault (nesting_fault s from levels)
-nesting_may sign.Open from levels = either MayFault (ltb (length levels) max_depth) None (Some (TooDeep from)) tt tt
-nesting_may sign.Close from [] = tt
-nesting_may sign.Close from (innermost ∷ levels) = tt
-nesting_may (sign.Name letters) from levels = tt
-nesting_may (sign.Number number) from levels = tt
-nesting_may (sign.Quoted letters) from levels = tt
+nesting_may : (s : TokenKind) (from : ℕ) (levels : List ℕ) → MayFault (nesting_fault s from levels)
+nesting_may kind.Open from levels = either MayFault (ltb (length levels) max_depth) None (Some (TooDeep from)) tt tt
+nesting_may kind.Close from [] = tt
+nesting_may kind.Close from (innermost ∷ levels) = tt
+nesting_may (kind.Name letters) from levels = tt
+nesting_may (kind.Number number) from levels = tt
+nesting_may (kind.Quoted letters) from levels = tt
 
 fault_may : (read : Read) (levels : List ℕ) → Faults read → MayFault (fault_at read levels)
 fault_may (Err fault) levels f = f
-fault_may (Ok (Some found)) levels f = nesting_may (found.0.sign) (found.0.from) levels
+fault_may (Ok (Some found)) levels f = nesting_may (found.0.kind) (found.0.from) levels
 fault_may (Ok None) [] f = tt
 fault_may (Ok None) (innermost ∷ levels) f = tt
 

@@ -13,3 +13,5 @@ pub mod Utf8Front
 pub mod Progress
 pub mod Building
 pub mod SomeAnswer
+pub mod Naming
+pub mod Steps

@@ -4,8 +4,8 @@ use Rattle.std.specs.Str.{IsUtf8, IsValidUpTo}
 use Rattle.std.proofs.lemmas.Str.{utf8_valid_len-IsValidUpTo}
 use Rattle.st_token.specs.declared.fault.SexpFault.{SexpFault}
 use Rattle.st_token.specs.declared.fault.SexpFault.TheVariants.{Unclosed, Stray, BadNumber, TooDeep, NotUtf8, Memory}
-use Rattle.st_token.specs.declared.token.Sign.{Sign}
-use Rattle.st_token.specs.declared.token.Sign.TheVariants as sign
+use Rattle.st_token.specs.declared.token.TokenKind.{TokenKind}
+use Rattle.st_token.specs.declared.token.TokenKind.TheVariants as kind
 use Rattle.st_token.specs.Scan.{next_of, Read}
 use Rattle.st_sexp.specs.declared.form.Form.{Form}
 use Rattle.st_sexp.specs.Flat.{all_tokens}
@@ -34,19 +34,19 @@ too_deep true inner deep fault is = absurd (cc)
 too_deep false inner deep fault is = refl
 
 -- a token where a nesting fault is due may not stand there
-nesting_stops : (s : Sign) (from : ℕ) (levels : List ℕ) (fault : SexpFault) → nesting_fault s from levels ≡ Some fault → opens s from levels ≡ None
-nesting_stops sign.Open from levels fault is = too_deep (ltb (length levels) max_depth) (from ∷ levels) (TooDeep from) fault is
-nesting_stops sign.Close from [] fault is = refl
-nesting_stops sign.Close from (innermost ∷ levels) fault is = absurd (cc)
-nesting_stops (sign.Name letters) from levels fault is = absurd (cc)
-nesting_stops (sign.Number number) from levels fault is = absurd (cc)
-nesting_stops (sign.Quoted letters) from levels fault is = absurd (cc)
+nesting_stops : (s : TokenKind) (from : ℕ) (levels : List ℕ) (fault : SexpFault) → nesting_fault s from levels ≡ Some fault → opens s from levels ≡ None
+nesting_stops kind.Open from levels fault is = too_deep (ltb (length levels) max_depth) (from ∷ levels) (TooDeep from) fault is
+nesting_stops kind.Close from [] fault is = refl
+nesting_stops kind.Close from (innermost ∷ levels) fault is = absurd (cc)
+nesting_stops (kind.Name letters) from levels fault is = absurd (cc)
+nesting_stops (kind.Number number) from levels fault is = absurd (cc)
+nesting_stops (kind.Quoted letters) from levels fault is = absurd (cc)
 
 -- where a fault is due reading stops
 fault_stops : (read : Read) (levels : List ℕ) (fault : SexpFault) → fault_at read levels ≡ Some fault → Stops read levels
 fault_stops (Err found) levels fault is = tt
 fault_stops (Ok None) levels fault is = tt
-fault_stops (Ok (Some found)) levels fault is = nesting_stops (found.0.sign) (found.0.from) levels fault is
+fault_stops (Ok (Some found)) levels fault is = nesting_stops (found.0.kind) (found.0.from) levels fault is
 
 is_some : (o : Option (List ℕ)) → IsSome o → (now : List ℕ) × (o ≡ Some now)
 is_some None some = absurd (cc)

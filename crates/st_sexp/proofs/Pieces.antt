@@ -8,8 +8,8 @@ use Rattle.std.proofs.lemmas.Bool.{lt-ltb}
 use Rattle.std.proofs.lemmas.Str.{IsAscii-append, IsUtf8-from_ascii}
 use Rattle.std.proofs.lemmas.Str.Ascii.{IsAscii-nil, IsAscii-cons}
 use Rattle.st_token.specs.declared.token.Token.{Token}
-use Rattle.st_token.specs.declared.token.Sign.{Sign}
-use Rattle.st_token.specs.declared.token.Sign.TheVariants as sign
+use Rattle.st_token.specs.declared.token.TokenKind.{TokenKind}
+use Rattle.st_token.specs.declared.token.TokenKind.TheVariants as kind
 use Rattle.st_token.specs.Scan.{place, next_of}
 use Rattle.st_token.proofs.Fronts.{EndsWord, is_small_word, next_of-word, next_of-digits, small_word_ascii, digits_ascii}
 use Rattle.st_sexp.specs.declared.form.Form.{Form}
@@ -70,7 +70,7 @@ begins-append total (token ∷ first) second text middle rest a b = (a.0, a.1, b
 open_after-append : (first second : List Token) (levels middle : List ℕ) → open_after levels first ≡ Some middle → open_after levels (first ++ second) ≡ open_after middle second
 open_after-append [] second levels middle is = ap (λ o. elim o as (λ x. Option (List ℕ)) [ Some l ↦ open_after l second | None ↦ None ]) is
 open_after-append (token ∷ first) second levels middle is =
-    let step = opens_some (opens token.sign token.from levels) (λ now. open_after now first) middle is in
+    let step = opens_some (opens token.kind token.from levels) (λ now. open_after now first) middle is in
     rw step.1 (open_after-append first second step.0 middle step.2)
 
 keeps-append : (deep : ℕ) (first second : List Token) → Keeps deep first → Keeps deep second → Keeps deep (first ++ second)
@@ -88,7 +88,7 @@ word_form word deep small = record {
       let from = place total (word ++ rest) in
       let to = from + length word in
       let spelled = tokens_of-name word from to in
-      let tokens : List Token = record { sign = sign.Name word; from = from; to = to } ∷ [] in
+      let tokens : List Token = record { kind = kind.Name word; from = from; to = to } ∷ [] in
       record {
         form = record { shape = shape.Name word; from = from; to = to };
         begins = subst (λ tokens. Begins total (word ++ rest) tokens rest) (sym spelled) (rest, next_of-word total word rest small ends, refl);
@@ -205,14 +205,14 @@ behind_more gap item items deep P Q R is more one others = record {
 }
 
 -- some forms between parentheses are a list
-opens_below : (levels : List ℕ) (from deep : ℕ) → length levels + suc deep ≤ 64 → opens sign.Open from levels ≡ Some (from ∷ levels)
+opens_below : (levels : List ℕ) (from deep : ℕ) → length levels + suc deep ≤ 64 → opens kind.Open from levels ≡ Some (from ∷ levels)
 opens_below levels from deep few = rw (lt-ltb (length levels) 64 (omega arith)) refl
 
-list_keeps : (from deep : ℕ) (close : Token) (tokens : List Token) → close.sign ≡ sign.Close → Keeps deep tokens → (to : ℕ) → Keeps (suc deep) (record { sign = sign.Open; from = from; to = to } ∷ (tokens ++ close ∷ []))
+list_keeps : (from deep : ℕ) (close : Token) (tokens : List Token) → close.kind ≡ kind.Close → Keeps deep tokens → (to : ℕ) → Keeps (suc deep) (record { kind = kind.Open; from = from; to = to } ∷ (tokens ++ close ∷ []))
 list_keeps from deep close tokens closes keeps to levels few =
     ap (option_and_then (λ now. open_after now (tokens ++ close ∷ []))) (opens_below levels from deep few)
     ∙ open_after-append tokens (close ∷ []) (from ∷ levels) (from ∷ levels) (keeps (from ∷ levels) (omega arith))
-    ∙ ap (λ (s : Sign). option_and_then (λ now. open_after now []) (opens s close.from (from ∷ levels))) closes
+    ∙ ap (λ (s : TokenKind). option_and_then (λ now. open_after now []) (opens s close.from (from ∷ levels))) closes
 
 pub list_form : (text : List ℕ) (deep : ℕ) (Q : List Form → Type 0) (R : Form → Type 0) → ((form : Form) (forms : List Form) → as_list form ≡ Some forms → Q forms → R form) →
     AreForms text deep Q → IsForm (40 ∷ text ++ 41 ∷ []) (suc deep) R
@@ -222,11 +222,11 @@ list_form text deep Q R more inside = record {
       let found = inside.reads total (41 ∷ rest) refl in
       let from = place total (40 ∷ (text ++ 41 ∷ rest)) in
       let at = place total (41 ∷ rest) in
-      let opening : Token = record { sign = sign.Open; from = from; to = from + 1 } in
-      let close : Token = record { sign = sign.Close; from = at; to = at + 1 } in
+      let opening : Token = record { kind = kind.Open; from = from; to = from + 1 } in
+      let close : Token = record { kind = kind.Close; from = at; to = at + 1 } in
       let form : Form = record { shape = shape.List found.forms; from = from; to = at + 1 } in
       let one : at + 1 - 1 ≡ at = omega arith in
-      let spelled : tokens_of form ≡ opening ∷ (all_tokens found.forms ++ close ∷ []) = tokens_of-list found.forms from (at + 1) ∙ ap (λ (place : ℕ). opening ∷ (all_tokens found.forms ++ record { sign = sign.Close; from = place; to = at + 1 } ∷ [])) one in
+      let spelled : tokens_of form ≡ opening ∷ (all_tokens found.forms ++ close ∷ []) = tokens_of-list found.forms from (at + 1) ∙ ap (λ (place : ℕ). opening ∷ (all_tokens found.forms ++ record { kind = kind.Close; from = place; to = at + 1 } ∷ [])) one in
       let closing : Begins total (41 ∷ rest) (close ∷ []) rest = (rest, refl, refl) in
       let begins : Begins total (40 ∷ (text ++ 41 ∷ rest)) (opening ∷ (all_tokens found.forms ++ close ∷ [])) rest =
       (text ++ 41 ∷ rest, refl, begins-append total (all_tokens found.forms) (close ∷ []) (text ++ 41 ∷ rest) (41 ∷ rest) rest found.begins closing) in

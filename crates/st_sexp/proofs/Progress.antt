@@ -3,17 +3,17 @@ use Rattle.std.proofs.Common.{◌≡◌, ℕ, suc, ◌+◌, ◌<◌, ◌≤◌, 
 use Rattle.std.specs.Prelude.{ℤ, position}
 use Rattle.std.specs.List.{position_or_len}
 use Rattle.st_token.specs.declared.fault.SexpFault.{SexpFault}
-use Rattle.st_token.specs.declared.token.Sign.{Sign}
-use Rattle.st_token.specs.declared.token.Sign.TheVariants as sign
+use Rattle.st_token.specs.declared.token.TokenKind.{TokenKind}
+use Rattle.st_token.specs.declared.token.TokenKind.TheVariants as kind
 use Rattle.st_token.specs.Bytes.{is_blank, ends_token, is_escape, is_name_byte}
 use Rattle.st_token.specs.Answer.{IsOneByte}
-use Rattle.st_token.specs.Scan.{Read, place, after_gap, before, escape_of, quoted, begins_number, number_of, number_sign, name_sign, word_sign, word_read, word_at, quote_read, parenthesis, token_at, next_of}
+use Rattle.st_token.specs.Scan.{Read, place, after_gap, before, escape_of, quoted, begins_number, number_of, number_kind, name_kind, word_kind, word_read, word_at, quote_read, parenthesis, token_at, next_of}
 
 -- a token leaves less than n bytes behind it
 abbrev pub Advances : ℕ → Read → Type 0
 Advances n (Err fault) = Unit {0}
 Advances n (Ok None) = Unit {0}
-Advances n (Ok (Some found)) = (length (found.1) < n) × IsOneByte (found.0.sign) (found.0.from) (found.0.to)
+Advances n (Ok (Some found)) = (length (found.1) < n) × IsOneByte (found.0.kind) (found.0.from) (found.0.to)
 
 either_advances : (n : ℕ) (b : Bool) (x y : Read) → (b ≡ true → Advances n x) → (b ≡ false → Advances n y) → Advances n (cond b x y)
 either_advances n true x y p q = p refl
@@ -51,28 +51,28 @@ quote_advances n total from (Ok found) is = (omega (arith, is), tt)
 quote_advances n total from (Err fault) is = tt
 
 -- a word is no parenthesis
-abbrev IsWord : Result Sign SexpFault → Type 0
+abbrev IsWord : Result TokenKind SexpFault → Type 0
 IsWord (Err fault) = Unit {0}
 IsWord (Ok s) = (from to : ℕ) → IsOneByte s from to
 
-either_word : (b : Bool) (x y : Result Sign SexpFault) → IsWord x → IsWord y → IsWord (cond b x y)
+either_word : (b : Bool) (x y : Result TokenKind SexpFault) → IsWord x → IsWord y → IsWord (cond b x y)
 either_word true x y p q = p
 either_word false x y p q = q
 
-number_sign_word : (from : ℕ) (o : Option ℤ) → IsWord (number_sign from o)
-number_sign_word from None = tt
-number_sign_word from (Some number) = λ from to. tt
+number_kind_word : (from : ℕ) (o : Option ℤ) → IsWord (number_kind from o)
+number_kind_word from None = tt
+number_kind_word from (Some number) = λ from to. tt
 
-name_sign_word : (from : ℕ) (word : List ℕ) (o : Option ℕ) → IsWord (name_sign from word o)
-name_sign_word from word None = λ from to. tt
-name_sign_word from word (Some i) = tt
+name_kind_word : (from : ℕ) (word : List ℕ) (o : Option ℕ) → IsWord (name_kind from word o)
+name_kind_word from word None = λ from to. tt
+name_kind_word from word (Some i) = tt
 
-word_sign_word : (from : ℕ) (word : List ℕ) → IsWord (word_sign from word)
-word_sign_word from word =
+word_kind_word : (from : ℕ) (word : List ℕ) → IsWord (word_kind from word)
+word_kind_word from word =
     let other = position (λ b. not (is_name_byte b)) word in
-    either_word (begins_number word) (number_sign from (number_of word)) (name_sign from word other) (number_sign_word from (number_of word)) (name_sign_word from word other)
+    either_word (begins_number word) (number_kind from (number_of word)) (name_kind from word other) (number_kind_word from (number_of word)) (name_kind_word from word other)
 
-word_advances : (n from : ℕ) (text : List ℕ) (len : ℕ) (r : Result Sign SexpFault) → IsWord r → length (drop len text) < n → Advances n (word_read from text len r)
+word_advances : (n from : ℕ) (text : List ℕ) (len : ℕ) (r : Result TokenKind SexpFault) → IsWord r → length (drop len text) < n → Advances n (word_read from text len r)
 word_advances n from text len (Ok s) word less = (less, word from (from + len))
 word_advances n from text len (Err fault) word less = tt
 
@@ -85,7 +85,7 @@ word_at_advances total b bs word =
     let len = position_or_len ends_token (b ∷ bs) in
     let some : 0 < len = some_len (ends_token b) (position_or_len ends_token bs) word in
     let less : length (drop len (b ∷ bs)) < length (b ∷ bs) = omega (arith, length-drop len (b ∷ bs)) in
-    word_advances (length (b ∷ bs)) (place total (b ∷ bs)) (b ∷ bs) len (word_sign (place total (b ∷ bs)) (take len (b ∷ bs))) (word_sign_word (place total (b ∷ bs)) (take len (b ∷ bs))) less
+    word_advances (length (b ∷ bs)) (place total (b ∷ bs)) (b ∷ bs) len (word_kind (place total (b ∷ bs)) (take len (b ∷ bs))) (word_kind_word (place total (b ∷ bs)) (take len (b ∷ bs))) less
 
 -- a text that begins with no blank and no comment
 abbrev Starts : List ℕ → Type 0
@@ -124,8 +124,8 @@ token_at_advances total (b ∷ bs) starts =
     let from = place total (b ∷ bs) in
     let text = quote_read total from (quoted total from false bs) in
     let word = word_at total (b ∷ bs) in
-    let opening = parenthesis sign.Open from bs in
-    let closing = parenthesis sign.Close from bs in
+    let opening = parenthesis kind.Open from bs in
+    let closing = parenthesis kind.Close from bs in
     either_advances n (b == 40) opening (cond (b == 41) closing (cond (b == 34) text word)) (λ _. (omega arith, refl)) (λ no_open.
     either_advances n (b == 41) closing (cond (b == 34) text word) (λ _. (omega arith, refl)) (λ no_close.
     either_advances n (b == 34) text word (λ _. quote_advances (length bs) total from (quoted total from false bs) (quoted_leaves total from false bs)) (λ no_quote.

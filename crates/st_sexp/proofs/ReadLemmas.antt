@@ -4,7 +4,8 @@ use Rattle.std.specs.Str.{IsUtf8}
 use Rattle.st_token.specs.declared.fault.SexpFault.{SexpFault}
 use Rattle.st_token.specs.declared.fault.SexpFault.TheVariants.{Unclosed, Stray, BadNumber, TooDeep, NotUtf8, Memory}
 use Rattle.st_token.specs.declared.token.Token.{Token}
-use Rattle.st_token.specs.Answer.{Fails}
+use Rattle.st_text.specs.Answer.{Answers}
+use Rattle.st_token.specs.Answer.{told}
 use Rattle.st_token.specs.Scan.{next_of}
 use Rattle.st_sexp.specs.declared.form.Form.{Form}
 use Rattle.st_sexp.specs.declared.nest.Nest.{Nest}
@@ -18,13 +19,13 @@ pub Begins-push : (total : ℕ) (text : List ℕ) (tokens : List Token) (rest be
 Begins-push total text [] rest behind token begins next = (behind, subst (λ left. next_of total left ≡ Ok (Some (token, behind))) begins next, refl)
 Begins-push total text (first ∷ tokens) rest behind token begins next = (begins.0, begins.1, Begins-push total begins.0 tokens rest behind token begins.2 next)
 
-pub open_after-push : (levels now then : List ℕ) (tokens : List Token) (token : Token) → open_after levels tokens ≡ Some now → opens token.sign token.from now ≡ Some then → open_after levels (tokens ++ token ∷ []) ≡ Some then
+pub open_after-push : (levels now then : List ℕ) (tokens : List Token) (token : Token) → open_after levels tokens ≡ Some now → opens token.kind token.from now ≡ Some then → open_after levels (tokens ++ token ∷ []) ≡ Some then
 open_after-push levels now then [] token nested opened =
     let same : levels ≡ now = (let all : Some levels ≡ Some now = nested in cc) in
-    let here : opens token.sign token.from levels ≡ Some then = subst (λ places. opens token.sign token.from places ≡ Some then) (sym same) opened in
+    let here : opens token.kind token.from levels ≡ Some then = subst (λ places. opens token.kind token.from places ≡ Some then) (sym same) opened in
     rw here refl
 open_after-push levels now then (first ∷ tokens) token nested opened =
-    let step = opens_some (opens first.sign first.from levels) (λ places. open_after places tokens) now nested in
+    let step = opens_some (opens first.kind first.from levels) (λ places. open_after places tokens) now nested in
     rw step.1 (open_after-push step.0 now then tokens token step.2 opened)
 
 -- what was read of a text up to a place
@@ -37,7 +38,7 @@ pub read_none : (text : List ℕ) (nest : Nest) → nest.levels ≡ [] → nest.
 read_none text nest levels forms =
     record { inside = omega arith; begins = rw (levels, forms) refl; nested = rw (levels, forms) refl }
 
-pub read_more : (text : List ℕ) (at : ℕ) (old new : Nest) (token : Token) → IsRead text at old → token.to ≤ length text → next_of (length text) (drop at text) ≡ Ok (Some (token, drop token.to text)) → tokens_read new ≡ tokens_read old ++ token ∷ [] → opens token.sign token.from (places old.levels) ≡ Some (places new.levels) → IsRead text token.to new
+pub read_more : (text : List ℕ) (at : ℕ) (old new : Nest) (token : Token) → IsRead text at old → token.to ≤ length text → next_of (length text) (drop at text) ≡ Ok (Some (token, drop token.to text)) → tokens_read new ≡ tokens_read old ++ token ∷ [] → opens token.kind token.from (places old.levels) ≡ Some (places new.levels) → IsRead text token.to new
 read_more text at old new token read inside next tokens opened = record {
   inside = inside;
   begins = rw tokens (Begins-push (length text) text (tokens_read old) (drop at text) (drop token.to text) token read.begins next);
@@ -60,16 +61,16 @@ due_at text at nest fault utf8 read found =
     (record { tokens = tokens_read nest; rest = drop at text; levels = places nest.levels; begins = read.begins; nested = read.nested; found = found })
 
 -- a fault of the next token is due
-pub due_next : (text : List ℕ) (at : ℕ) (nest : Nest) (fault : SexpFault) → IsUtf8 text → IsRead text at nest → Fails fault (next_of (length text) (drop at text)) → Due text (Err fault)
+pub due_next : (text : List ℕ) (at : ℕ) (nest : Nest) (fault : SexpFault) → IsUtf8 text → IsRead text at nest → Answers told (Err fault) (next_of (length text) (drop at text)) → Due text (Err fault)
 due_next text at nest Memory utf8 read fails = tt
-due_next text at nest (Unclosed place) utf8 read fails = due_at text at nest (Unclosed place) utf8 read (rw fails refl)
-due_next text at nest (Stray place) utf8 read fails = due_at text at nest (Stray place) utf8 read (rw fails refl)
-due_next text at nest (BadNumber place) utf8 read fails = due_at text at nest (BadNumber place) utf8 read (rw fails refl)
-due_next text at nest (TooDeep place) utf8 read fails = due_at text at nest (TooDeep place) utf8 read (rw fails refl)
-due_next text at nest (NotUtf8 place) utf8 read fails = due_at text at nest (NotUtf8 place) utf8 read (rw fails refl)
+due_next text at nest (Unclosed place) utf8 read fails = due_at text at nest (Unclosed place) utf8 read (rw (← fails) refl)
+due_next text at nest (Stray place) utf8 read fails = due_at text at nest (Stray place) utf8 read (rw (← fails) refl)
+due_next text at nest (BadNumber place) utf8 read fails = due_at text at nest (BadNumber place) utf8 read (rw (← fails) refl)
+due_next text at nest (TooDeep place) utf8 read fails = due_at text at nest (TooDeep place) utf8 read (rw (← fails) refl)
+due_next text at nest (NotUtf8 place) utf8 read fails = due_at text at nest (NotUtf8 place) utf8 read (rw (← fails) refl)
 
 -- a fault of a token that may not stand there is due
-pub due_put : (text : List ℕ) (at : ℕ) (nest : Nest) (token : Token) (behind : List ℕ) (fault : SexpFault) → IsUtf8 text → IsRead text at nest → next_of (length text) (drop at text) ≡ Ok (Some (token, behind)) → IsFaultOf token.sign token.from (places nest.levels) fault → Due text (Err fault)
+pub due_put : (text : List ℕ) (at : ℕ) (nest : Nest) (token : Token) (behind : List ℕ) (fault : SexpFault) → IsUtf8 text → IsRead text at nest → next_of (length text) (drop at text) ≡ Ok (Some (token, behind)) → IsFaultOf token.kind token.from (places nest.levels) fault → Due text (Err fault)
 due_put text at nest token behind Memory utf8 read next fails = tt
 due_put text at nest token behind (Unclosed place) utf8 read next fails = due_at text at nest (Unclosed place) utf8 read (rw next fails)
 due_put text at nest token behind (Stray place) utf8 read next fails = due_at text at nest (Stray place) utf8 read (rw next fails)

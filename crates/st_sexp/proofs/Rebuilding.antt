@@ -3,8 +3,8 @@ use Rattle.std.proofs.Common.{◌≡◌, ℕ, ◌-◌, List, [], ◌∷◌, ◌+
 use Rattle.st_sexp.specs.declared.form.Form.{Form}
 use Rattle.st_sexp.specs.declared.form.Shape.TheVariants as shape
 use Rattle.st_token.specs.declared.token.Token.{Token}
-use Rattle.st_token.specs.declared.token.Sign.{Sign}
-use Rattle.st_token.specs.declared.token.Sign.TheVariants as sign
+use Rattle.st_token.specs.declared.token.TokenKind.{TokenKind}
+use Rattle.st_token.specs.declared.token.TokenKind.TheVariants as kind
 use Rattle.st_sexp.specs.Flat.{tokens_of, all_tokens}
 use Rattle.st_sexp.proofs.Spelling.{tokens_of-name, tokens_of-number, tokens_of-quoted, tokens_of-list}
 use Rattle.st_sexp.proofs.Induction.{Each, form_induction}
@@ -19,17 +19,17 @@ closed [] forms to = ([], forms)
 closed (level ∷ levels) forms to = (levels, level.0 ++ record { shape = shape.List forms; from = level.1; to = to } ∷ [])
 
 -- what is built after one more token
-abbrev after_sign : Sign → ℕ → ℕ → List (List Form × ℕ) → List Form → Built
-after_sign sign.Open from to levels forms = ((forms, from) ∷ levels, [])
-after_sign sign.Close from to levels forms = closed levels forms to
-after_sign (sign.Name letters) from to levels forms = (levels, forms ++ record { shape = shape.Name letters; from = from; to = to } ∷ [])
-after_sign (sign.Number number) from to levels forms = (levels, forms ++ record { shape = shape.Number number; from = from; to = to } ∷ [])
-after_sign (sign.Quoted letters) from to levels forms = (levels, forms ++ record { shape = shape.Quoted letters; from = from; to = to } ∷ [])
+abbrev after_kind : TokenKind → ℕ → ℕ → List (List Form × ℕ) → List Form → Built
+after_kind kind.Open from to levels forms = ((forms, from) ∷ levels, [])
+after_kind kind.Close from to levels forms = closed levels forms to
+after_kind (kind.Name letters) from to levels forms = (levels, forms ++ record { shape = shape.Name letters; from = from; to = to } ∷ [])
+after_kind (kind.Number number) from to levels forms = (levels, forms ++ record { shape = shape.Number number; from = from; to = to } ∷ [])
+after_kind (kind.Quoted letters) from to levels forms = (levels, forms ++ record { shape = shape.Quoted letters; from = from; to = to } ∷ [])
 
 -- the forms that are built at the end of tokens
 abbrev built : List (List Form × ℕ) → List Form → List Token → List Form
 built levels forms [] = forms
-built levels forms (token ∷ tokens) = let now = after_sign token.sign token.from token.to levels forms in built now.0 now.1 tokens
+built levels forms (token ∷ tokens) = let now = after_kind token.kind token.from token.to levels forms in built now.0 now.1 tokens
 
 abbrev IsRebuilt : Form → Type 0
 IsRebuilt form = (levels : List (List Form × ℕ)) (forms : List Form) (tokens : List Token) → built levels forms (tokens_of form ++ tokens) ≡ built levels (forms ++ form ∷ []) tokens
@@ -42,8 +42,8 @@ all_rebuilt (form ∷ more) each levels forms tokens =
 
 list_rebuilt : (more : List Form) (from to : ℕ) → Each IsRebuilt more → IsRebuilt (record { shape = shape.List more; from = from; to = to })
 list_rebuilt more from to each levels forms tokens =
-    rw tokens_of-list (ap (built ((forms, from) ∷ levels) []) (append_assoc (all_tokens more) (record { sign = sign.Close; from = to - 1; to = to } ∷ []) tokens)
-    ∙ all_rebuilt more each ((forms, from) ∷ levels) [] (record { sign = sign.Close; from = to - 1; to = to } ∷ tokens))
+    rw tokens_of-list (ap (built ((forms, from) ∷ levels) []) (append_assoc (all_tokens more) (record { kind = kind.Close; from = to - 1; to = to } ∷ []) tokens)
+    ∙ all_rebuilt more each ((forms, from) ∷ levels) [] (record { kind = kind.Close; from = to - 1; to = to } ∷ tokens))
 
 is_rebuilt : (form : Form) → IsRebuilt form
 is_rebuilt = form_induction IsRebuilt (record {

@@ -4,8 +4,8 @@ use Rattle.std.specs.Str.{IsUtf8}
 use Rattle.st_token.specs.declared.fault.SexpFault.{SexpFault}
 use Rattle.st_token.specs.declared.fault.SexpFault.TheVariants.{Unclosed, Stray, BadNumber, TooDeep, NotUtf8, Memory}
 use Rattle.st_token.specs.declared.token.Token.{Token}
-use Rattle.st_token.specs.declared.token.Sign.{Sign}
-use Rattle.st_token.specs.declared.token.Sign.TheVariants as sign
+use Rattle.st_token.specs.declared.token.TokenKind.{TokenKind}
+use Rattle.st_token.specs.declared.token.TokenKind.TheVariants as kind
 use Rattle.st_token.specs.Scan.{next_of, Read}
 use Rattle.st_sexp.specs.declared.form.Form.{Form}
 use Rattle.st_sexp.specs.Flat.{all_tokens}
@@ -29,7 +29,7 @@ stop_here : (total : ℕ) (text from : List ℕ) → Stops (next_of total text) 
 stop_here total text from stops =
     record { tokens = []; rest = text; now = from; is = record { begins = refl; nested = refl; stops = stops }; one = tt }
 
-stop_behind : (total : ℕ) (text from inner behind : List ℕ) (token : Token) → next_of total text ≡ Ok (Some (token, behind)) → opens token.sign token.from from ≡ Some inner → AreOneByte (token ∷ []) → Stop total behind inner → Stop total text from
+stop_behind : (total : ℕ) (text from inner behind : List ℕ) (token : Token) → next_of total text ≡ Ok (Some (token, behind)) → opens token.kind token.from from ≡ Some inner → AreOneByte (token ∷ []) → Stop total behind inner → Stop total text from
 stop_behind total text from inner behind token next opened one stop = record {
   tokens = token ∷ stop.tokens;
   rest = stop.rest;
@@ -38,14 +38,14 @@ stop_behind total text from inner behind token next opened one stop = record {
   one = (one.0, stop.one);
 }
 
-go_on : (total : ℕ) (text from : List ℕ) (found : Token × List ℕ) (o : Option (List ℕ)) → next_of total text ≡ Ok (Some found) → opens (found.0.sign) (found.0.from) from ≡ o → Advances (length text) (Ok (Some found)) → ((behind inner : List ℕ) → length behind < length text → Stop total behind inner) → Stop total text from
+go_on : (total : ℕ) (text from : List ℕ) (found : Token × List ℕ) (o : Option (List ℕ)) → next_of total text ≡ Ok (Some found) → opens (found.0.kind) (found.0.from) from ≡ o → Advances (length text) (Ok (Some found)) → ((behind inner : List ℕ) → length behind < length text → Stop total behind inner) → Stop total text from
 go_on total text from found None next opened advances more = stop_here total text from (subst (λ read. Stops read from) (sym next) opened)
 go_on total text from found (Some inner) next opened advances more = stop_behind total text from inner (found.1) (found.0) next opened (advances.1, tt) (more (found.1) inner advances.0)
 
 read_on : (total : ℕ) (text from : List ℕ) (read : Read) → next_of total text ≡ read → Advances (length text) read → ((behind inner : List ℕ) → length behind < length text → Stop total behind inner) → Stop total text from
 read_on total text from (Err fault) next advances more = stop_here total text from (subst (λ read. Stops read from) (sym next) tt)
 read_on total text from (Ok None) next advances more = stop_here total text from (subst (λ read. Stops read from) (sym next) tt)
-read_on total text from (Ok (Some found)) next advances more = go_on total text from found (opens (found.0.sign) (found.0.from) from) next refl advances more
+read_on total text from (Ok (Some found)) next advances more = go_on total text from found (opens (found.0.kind) (found.0.from) from) next refl advances more
 
 -- reading comes to a stop, since each token takes a byte
 stop_of : (most total : ℕ) (text from : List ℕ) → length text ≤ most → Stop total text from
@@ -73,13 +73,13 @@ too_deep true opened deep is = absurd (cc)
 too_deep false opened deep is = (deep, refl)
 
 -- a token that may not stand there has its fault
-nesting_answer : (s : Sign) (from : ℕ) (levels : List ℕ) → opens s from levels ≡ None → (fault : SexpFault) × (nesting_fault s from levels ≡ Some fault)
-nesting_answer sign.Open from levels is = too_deep (ltb (length levels) max_depth) (from ∷ levels) (TooDeep from) is
-nesting_answer sign.Close from [] is = (Stray from, refl)
-nesting_answer sign.Close from (innermost ∷ levels) is = absurd (cc)
-nesting_answer (sign.Name letters) from levels is = absurd (cc)
-nesting_answer (sign.Number number) from levels is = absurd (cc)
-nesting_answer (sign.Quoted letters) from levels is = absurd (cc)
+nesting_answer : (s : TokenKind) (from : ℕ) (levels : List ℕ) → opens s from levels ≡ None → (fault : SexpFault) × (nesting_fault s from levels ≡ Some fault)
+nesting_answer kind.Open from levels is = too_deep (ltb (length levels) max_depth) (from ∷ levels) (TooDeep from) is
+nesting_answer kind.Close from [] is = (Stray from, refl)
+nesting_answer kind.Close from (innermost ∷ levels) is = absurd (cc)
+nesting_answer (kind.Name letters) from levels is = absurd (cc)
+nesting_answer (kind.Number number) from levels is = absurd (cc)
+nesting_answer (kind.Quoted letters) from levels is = absurd (cc)
 
 -- at the end of a text with no list open its forms are due
 forms_answer : (text : List ℕ) (stop : Stop (length text) text []) → next_of (length text) stop.rest ≡ Ok None → stop.now ≡ [] → HasAnswer text
@@ -97,7 +97,7 @@ answer_at : (text : List ℕ) (stop : Stop (length text) text []) (read : Read) 
 answer_at text stop (Err fault) next = fault_answer text stop fault (rw next refl)
 answer_at text stop (Ok None) next = end_answer text stop stop.now refl next
 answer_at text stop (Ok (Some found)) next =
-    let nested = nesting_answer (found.0.sign) (found.0.from) stop.now (subst (λ read. Stops read stop.now) next stop.is.stops) in
+    let nested = nesting_answer (found.0.kind) (found.0.from) stop.now (subst (λ read. Stops read stop.now) next stop.is.stops) in
     fault_answer text stop nested.0 (rw next nested.1)
 
 no_memory : (fault : SexpFault) → IsOfTokens fault → ¬ (WantsMemory (Err fault))

@@ -9,7 +9,7 @@ use Rattle.st_sexp.specs.Reading.{Begins, opens, open_after}
 abbrev pub Stops : Read → List ℕ → Type 0
 Stops (Err fault) levels = Unit {0}
 Stops (Ok None) levels = Unit {0}
-Stops (Ok (Some found)) levels = opens (found.0.sign) (found.0.from) levels ≡ None
+Stops (Ok (Some found)) levels = opens (found.0.kind) (found.0.from) levels ≡ None
 
 -- reading a text comes to its stop: behind these tokens, with these lists open
 pub record IsStop (total : ℕ) (text from : List ℕ) (tokens : List Token) (rest now : List ℕ) : Type 0 where
@@ -25,7 +25,7 @@ pub record AreSame (tokens tokens' : List Token) (rest rest' now now' : List ℕ
 -- a token that may not stand there is no token of a front that may
 no_more : (total : ℕ) (text from rest now behind : List ℕ) (token : Token) (tokens : List Token) → Stops (next_of total text) from → next_of total text ≡ Ok (Some (token, behind)) → open_after from (token ∷ tokens) ≡ Some now → ⊥
 no_more total text from rest now behind token tokens stops next nested =
-    let none : opens token.sign token.from from ≡ None = subst (λ read. Stops read from) next stops in
+    let none : opens token.kind token.from from ≡ None = subst (λ read. Stops read from) next stops in
     let never : option_and_then (λ inner. open_after inner tokens) None ≡ Some now = rw none at nested in
     cc
 
@@ -45,7 +45,7 @@ pub same_found : (read : Read) (a b : Token × List ℕ) → read ≡ Ok (Some a
 same_found read a b p q = cc
 
 -- the same stop, seen from behind the first token
-behind_first : (total : ℕ) (text behind from inner rest now : List ℕ) (token : Token) (tokens : List Token) → next_of total text ≡ Ok (Some (token, behind)) → opens token.sign token.from from ≡ Some inner → IsStop total text from (token ∷ tokens) rest now → IsStop total behind inner tokens rest now
+behind_first : (total : ℕ) (text behind from inner rest now : List ℕ) (token : Token) (tokens : List Token) → next_of total text ≡ Ok (Some (token, behind)) → opens token.kind token.from from ≡ Some inner → IsStop total text from (token ∷ tokens) rest now → IsStop total behind inner tokens rest now
 behind_first total text behind from inner rest now token tokens next opened stop =
     let same : stop.begins.0 ≡ behind = ap (λ (found : Token × List ℕ). found.1) (same_found (next_of total text) (token, stop.begins.0) (token, behind) stop.begins.1 next) in
     let more : option_and_then (λ levels. open_after levels tokens) (Some inner) ≡ Some now = subst (λ o. option_and_then (λ levels. open_after levels tokens) o ≡ Some now) opened stop.nested in
@@ -64,7 +64,7 @@ same_stop total (token ∷ tokens) [] text from rest rest' now now' a b = absurd
 same_stop total (token ∷ tokens) (token' ∷ tokens') text from rest rest' now now' a b =
     let one = first_same total text a.begins.0 b.begins.0 token token' a.begins.1 b.begins.1 in
     let b' : IsStop total text from (token ∷ tokens') rest' now' = subst (λ (t : Token). IsStop total text from (t ∷ tokens') rest' now') one b in
-    let step = opens_some (opens token.sign token.from from) (λ levels. open_after levels tokens) now a.nested in
+    let step = opens_some (opens token.kind token.from from) (λ levels. open_after levels tokens) now a.nested in
     let same = same_stop total tokens tokens' a.begins.0 step.0 rest rest' now now' (behind_first total text a.begins.0 from step.0 rest now token tokens a.begins.1 step.1 a) (behind_first total text a.begins.0 from step.0 rest' now' token tokens' a.begins.1 step.1 b') in
     let tokens_same : token ∷ tokens ≡ token' ∷ tokens' = (let tail : tokens ≡ tokens' = same.tokens_same in cc) in
     record { tokens_same = tokens_same; rest_same = same.rest_same; now_same = same.now_same }

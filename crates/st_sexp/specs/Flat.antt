@@ -5,16 +5,16 @@ use Rattle.st_sexp.specs.declared.form.Form.{Form}
 use Rattle.st_sexp.specs.declared.form.Shape.TheFolds.{fold-Shape}
 use Rattle.st_sexp.specs.declared.form.Shape.TheOpen.{Shape-F, Form-F}
 use Rattle.st_token.specs.declared.token.Token.{Token}
-use Rattle.st_token.specs.declared.token.Sign.TheVariants as sign
+use Rattle.st_token.specs.declared.token.TokenKind.TheVariants as kind
 
 -- The tokens of a shape at a place: one for a name, a number or a text, and for a list its parentheses round the
 -- tokens of its forms.
 abbrev pub shape_tokens : Shape-F (ℕ → ℕ → List Token) (List Token) → ℕ → ℕ → List Token
-shape_tokens (Shape-F.Name letters) from to = record { sign = sign.Name letters; from = from; to = to } ∷ []
-shape_tokens (Shape-F.Number number) from to = record { sign = sign.Number number; from = from; to = to } ∷ []
-shape_tokens (Shape-F.Quoted letters) from to = record { sign = sign.Quoted letters; from = from; to = to } ∷ []
+shape_tokens (Shape-F.Name letters) from to = record { kind = kind.Name letters; from = from; to = to } ∷ []
+shape_tokens (Shape-F.Number number) from to = record { kind = kind.Number number; from = from; to = to } ∷ []
+shape_tokens (Shape-F.Quoted letters) from to = record { kind = kind.Quoted letters; from = from; to = to } ∷ []
 shape_tokens (Shape-F.List forms) from to =
-    record { sign = sign.Open; from = from; to = from + 1 } ∷ flat_map (λ tokens. tokens) forms ++ record { sign = sign.Close; from = to - 1; to = to } ∷ []
+    record { kind = kind.Open; from = from; to = from + 1 } ∷ flat_map (λ tokens. tokens) forms ++ record { kind = kind.Close; from = to - 1; to = to } ∷ []
 
 -- a form's tokens are its shape's, from where it begins to where it ends
 abbrev pub form_tokens : Form-F (ℕ → ℕ → List Token) (List Token) → List Token

@@ -5,8 +5,8 @@ use Rattle.std.specs.Str.{IsValidUpTo}
 use Rattle.st_token.specs.declared.fault.SexpFault.{SexpFault}
 use Rattle.st_token.specs.declared.fault.SexpFault.TheVariants.{Unclosed, Stray, TooDeep, NotUtf8, Memory}
 use Rattle.st_token.specs.declared.token.Token.{Token}
-use Rattle.st_token.specs.declared.token.Sign.{Sign}
-use Rattle.st_token.specs.declared.token.Sign.TheVariants as sign
+use Rattle.st_token.specs.declared.token.TokenKind.{TokenKind}
+use Rattle.st_token.specs.declared.token.TokenKind.TheVariants as kind
 use Rattle.st_token.specs.Scan.{next_of, Read}
 use Rattle.st_sexp.specs.declared.form.Form.{Form}
 use Rattle.st_sexp.specs.Flat.{all_tokens}
@@ -26,15 +26,15 @@ closes [] = None
 closes (innermost ∷ levels) = Some levels
 
 -- where the open lists began after a token, the innermost first; None where it may not stand there
-abbrev pub opens : Sign → ℕ → List ℕ → Option (List ℕ)
-opens sign.Open from levels = if nat_lt (length levels) max_depth then Some (from ∷ levels) else None
-opens sign.Close from levels = closes levels
+abbrev pub opens : TokenKind → ℕ → List ℕ → Option (List ℕ)
+opens kind.Open from levels = if nat_lt (length levels) max_depth then Some (from ∷ levels) else None
+opens kind.Close from levels = closes levels
 opens _ from levels = Some levels
 
 -- where the open lists began after tokens
 abbrev pub open_after : List ℕ → List Token → Option (List ℕ)
 open_after levels [] = Some levels
-open_after levels (token ∷ tokens) = option_and_then (λ now. open_after now tokens) (opens token.sign token.from levels)
+open_after levels (token ∷ tokens) = option_and_then (λ now. open_after now tokens) (opens token.kind token.from levels)
 
 -- the text is these forms: their tokens are all its tokens, and at most 64 lists are open at any place
 pub record Spells (text : List ℕ) (forms : List Form) : Type 0 where
@@ -42,16 +42,16 @@ pub record Spells (text : List ℕ) (forms : List Form) : Type 0 where
   pub nested : IsSome (open_after [] (all_tokens forms))
 
 -- a list that opens too deep, a parenthesis that closes nothing
-abbrev pub nesting_fault : Sign → ℕ → List ℕ → Option SexpFault
-nesting_fault sign.Open from levels = if nat_lt (length levels) max_depth then None else Some (TooDeep from)
-nesting_fault sign.Close from [] = Some (Stray from)
-nesting_fault sign.Close from (innermost ∷ levels) = None
+abbrev pub nesting_fault : TokenKind → ℕ → List ℕ → Option SexpFault
+nesting_fault kind.Open from levels = if nat_lt (length levels) max_depth then None else Some (TooDeep from)
+nesting_fault kind.Close from [] = Some (Stray from)
+nesting_fault kind.Close from (innermost ∷ levels) = None
 nesting_fault _ from levels = None
 
 -- the fault where reading goes on with this and these lists are open; at the end the innermost open list
 abbrev pub fault_at : Read → List ℕ → Option SexpFault
 fault_at (Err fault) levels = Some fault
-fault_at (Ok (Some found)) levels = nesting_fault (found.0.sign) (found.0.from) levels
+fault_at (Ok (Some found)) levels = nesting_fault (found.0.kind) (found.0.from) levels
 fault_at (Ok None) [] = None
 fault_at (Ok None) (innermost ∷ levels) = Some (Unclosed innermost)
 

@@ -6,7 +6,7 @@ ghost use Rattle.st_sexp.specs.Levels.{tokens_read, places, IsFaultOf};
 
 use crate::{Form, Forms, SexpFault, Shape};
 use sqlite_items::Items;
-use st_token::{Sign, Token};
+use st_token::{Token, TokenKind};
 use std::alloc::Global;
 use std::mem;
 
@@ -44,19 +44,19 @@ impl Nest {
 
     /// Takes the next token. After a refusal the value is of no more use.
     pub(crate) fn put(&mut self, alloc: Global, token: Token) -> Result<(), SexpFault>
-        requires { IsOneByte token.sign token.from token.to }
+        requires { IsOneByte token.kind token.from token.to }
         ensures tokens { OnOk result (tokens_read self.new ≡ tokens_read self.old ++ token ∷ []) }
         ensures opens { OnOk result
-            (opens token.sign token.from (places self.old.levels) ≡ Some (places self.new.levels)) }
-        ensures fault { IfErr result (IsFaultOf token.sign token.from (places self.old.levels)) }
+            (opens token.kind token.from (places self.old.levels) ≡ Some (places self.new.levels)) }
+        ensures fault { IfErr result (IsFaultOf token.kind token.from (places self.old.levels)) }
     {
-        let Token { sign, from, to } = token;
-        match sign {
-            Sign::Open => self.open(alloc, from),
-            Sign::Close => self.close(from, to),
-            Sign::Name(letters) => self.add(Shape::Name(letters), from, to),
-            Sign::Number(number) => self.add(Shape::Number(number), from, to),
-            Sign::Quoted(letters) => self.add(Shape::Quoted(letters), from, to),
+        let Token { kind, from, to } = token;
+        match kind {
+            TokenKind::Open => self.open(alloc, from),
+            TokenKind::Close => self.close(from, to),
+            TokenKind::Name(letters) => self.add(Shape::Name(letters), from, to),
+            TokenKind::Number(number) => self.add(Shape::Number(number), from, to),
+            TokenKind::Quoted(letters) => self.add(Shape::Quoted(letters), from, to),
         }
     }
 
@@ -78,10 +78,10 @@ impl Nest {
     /// A list opens: the forms so far stand before it. `TooDeep` where 64 lists are open.
     fn open(&mut self, alloc: Global, from: u32) -> Result<(), SexpFault>
         ensures tokens { OnOk result (tokens_read self.new
-            ≡ tokens_read self.old ++ record { sign = Sign.Open; from = from; to = from + 1 } ∷ []) }
+            ≡ tokens_read self.old ++ record { kind = TokenKind.Open; from = from; to = from + 1 } ∷ []) }
         ensures opens { OnOk result
-            (opens Sign.Open from (places self.old.levels) ≡ Some (places self.new.levels)) }
-        ensures fault { IfErr result (IsFaultOf Sign.Open from (places self.old.levels)) }
+            (opens TokenKind.Open from (places self.old.levels) ≡ Some (places self.new.levels)) }
+        ensures fault { IfErr result (IsFaultOf TokenKind.Open from (places self.old.levels)) }
     {
         if self.levels.len() >= MAX_DEPTH {
             return Err(SexpFault::TooDeep { place: from });
@@ -95,10 +95,10 @@ impl Nest {
     fn close(&mut self, from: u32, to: u32) -> Result<(), SexpFault>
         requires { to ≡ from + 1 }
         ensures tokens { OnOk result (tokens_read self.new
-            ≡ tokens_read self.old ++ record { sign = Sign.Close; from = from; to = to } ∷ []) }
+            ≡ tokens_read self.old ++ record { kind = TokenKind.Close; from = from; to = to } ∷ []) }
         ensures opens { OnOk result
-            (opens Sign.Close from (places self.old.levels) ≡ Some (places self.new.levels)) }
-        ensures fault { IfErr result (IsFaultOf Sign.Close from (places self.old.levels)) }
+            (opens TokenKind.Close from (places self.old.levels) ≡ Some (places self.new.levels)) }
+        ensures fault { IfErr result (IsFaultOf TokenKind.Close from (places self.old.levels)) }
     {
         match self.levels.pop() {
             None => Err(SexpFault::Stray { place: from }),

@@ -1,7 +1,6 @@
-ghost use Rattle.std.specs.Prelude.{◌≡◌, ◌⊎◌, List, ℕ, ◌≤◌, length, Result};
-ghost use Rattle.st_token.specs.declared.fault.SexpFault.{SexpFault};
-ghost use Rattle.st_sexp.specs.declared.form.Form.{Form};
-ghost use Rattle.st_sexp.specs.Reading.{Due, WantsMemory};
+//! The forms that a text spells.
+ghost use Rattle.std.specs.Prelude.{◌≤◌, length};
+ghost use Rattle.st_sexp.specs.Reading.{Due};
 
 use crate::nest::Nest;
 use crate::{Forms, SexpFault};
@@ -30,12 +29,3 @@ pub fn read(alloc: Global, bytes: &[u8]) -> Result<Forms, SexpFault>
     }
     nest.finish()
 }
-
-/// Exactly one answer is due for each text, want of memory aside: a text that spells forms spells no others and
-/// has no fault, and each other text has one first fault.
-pub fn one_answer()
-    ensures no_other { (text : List ℕ) (a b : Result (List Form) SexpFault) → Due text a → Due text b →
-        WantsMemory a ⊎ WantsMemory b ⊎ (a ≡ b) }
-    ensures some_answer { (text : List ℕ) →
-        (answer : Result (List Form) SexpFault) × Due text answer × ¬ (WantsMemory answer) }
-{}

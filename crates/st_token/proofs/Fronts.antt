@@ -9,11 +9,11 @@ use Rattle.std.proofs.lemmas.Bool.Decides.{nat_tests}
 use Rattle.std.proofs.lemmas.Str.Ascii.{IsAscii-nil, IsAscii-cons}
 use Rattle.std.proofs.Math.Seq.{take-append_seam, drop-append_seam}
 use Rattle.st_token.specs.declared.fault.SexpFault.{SexpFault}
-use Rattle.st_token.specs.declared.token.Sign.{Sign}
-use Rattle.st_token.specs.declared.token.Sign.TheVariants as sign
+use Rattle.st_token.specs.declared.token.TokenKind.{TokenKind}
+use Rattle.st_token.specs.declared.token.TokenKind.TheVariants as kind
 use Rattle.st_token.specs.Bytes.{is_blank, ends_token, is_name_byte}
 use Rattle.st_token.proofs.Numbers.{plain_some}
-use Rattle.st_token.specs.Scan.{place, after_gap, begins_number, word_sign, word_read, word_at, token_at, next_of}
+use Rattle.st_token.specs.Scan.{place, after_gap, begins_number, word_kind, word_read, word_at, token_at, next_of}
 
 -- a text that a word before it does not run into
 abbrev pub EndsWord : List ℕ → Type 0
@@ -102,8 +102,8 @@ no_number [] h = refl
 no_number (b ∷ []) h = (first_no_number b (and_parts _ _ h).0).0
 no_number (b ∷ c ∷ bs) h = let no = first_no_number b (and_parts _ _ h).0 in rw (no.0, no.1) refl
 
-small_sign : (from : ℕ) (word : List ℕ) → is_small_word word ≡ true → word_sign from word ≡ Ok (sign.Name word)
-small_sign from word h =
+small_kind : (from : ℕ) (word : List ℕ) → is_small_word word ≡ true → word_kind from word ≡ Ok (kind.Name word)
+small_kind from word h =
     let small = small_bytes word h in rw (no_number word h, no_other word small, same_letters word small) refl
 
 -- a small byte begins a word
@@ -116,17 +116,17 @@ word_begins total b bs h =
     let gap : after_gap false (b ∷ bs) ≡ b ∷ bs = cond-false (b == 59) _ _ comment.1 ∙ cond-false (is_blank b) _ _ opening.0 in
     ap (token_at total) gap ∙ cond-false (b == 40) _ _ opening.1 ∙ cond-false (b == 41) _ _ closing.1 ∙ cond-false (b == 34) _ _ quote.1
 
-word_read_is : (from len : ℕ) (text rest : List ℕ) (read : Result Sign SexpFault) (s : Sign) → drop len text ≡ rest → read ≡ Ok s → word_read from text len read ≡ Ok (Some (record { sign = s; from = from; to = from + len }, rest))
+word_read_is : (from len : ℕ) (text rest : List ℕ) (read : Result TokenKind SexpFault) (s : TokenKind) → drop len text ≡ rest → read ≡ Ok s → word_read from text len read ≡ Ok (Some (record { kind = s; from = from; to = from + len }, rest))
 word_read_is from len text rest read s left is = rw (is, left) refl
 
-word_is : (total : ℕ) (text word rest : List ℕ) (s : Sign) → position_or_len ends_token text ≡ length word → take (length word) text ≡ word → drop (length word) text ≡ rest → word_sign (place total text) word ≡ Ok s →
-    word_at total text ≡ Ok (Some (record { sign = s; from = place total text; to = place total text + length word }, rest))
+word_is : (total : ℕ) (text word rest : List ℕ) (s : TokenKind) → position_or_len ends_token text ≡ length word → take (length word) text ≡ word → drop (length word) text ≡ rest → word_kind (place total text) word ≡ Ok s →
+    word_at total text ≡ Ok (Some (record { kind = s; from = place total text; to = place total text + length word }, rest))
 word_is total text word rest s long front left is =
-    ap (λ (len : ℕ). word_read (place total text) text len (word_sign (place total text) (take len text))) long
-    ∙ word_read_is (place total text) (length word) text rest (word_sign (place total text) (take (length word) text)) s left (ap (word_sign (place total text)) front ∙ is)
+    ap (λ (len : ℕ). word_read (place total text) text len (word_kind (place total text) (take len text))) long
+    ∙ word_read_is (place total text) (length word) text rest (word_kind (place total text) (take (length word) text)) s left (ap (word_kind (place total text)) front ∙ is)
 
-token_of_word : (total b : ℕ) (bs rest : List ℕ) (s : Sign) → AreSmall (b ∷ bs) → EndsWord rest → word_sign (place total (b ∷ bs ++ rest)) (b ∷ bs) ≡ Ok s →
-    next_of total (b ∷ bs ++ rest) ≡ Ok (Some (record { sign = s; from = place total (b ∷ bs ++ rest); to = place total (b ∷ bs ++ rest) + length (b ∷ bs) }, rest))
+token_of_word : (total b : ℕ) (bs rest : List ℕ) (s : TokenKind) → AreSmall (b ∷ bs) → EndsWord rest → word_kind (place total (b ∷ bs ++ rest)) (b ∷ bs) ≡ Ok s →
+    next_of total (b ∷ bs ++ rest) ≡ Ok (Some (record { kind = s; from = place total (b ∷ bs ++ rest); to = place total (b ∷ bs ++ rest) + length (b ∷ bs) }, rest))
 token_of_word total b bs rest s small ends is =
     let first = (and_parts _ _ small).0 in
     word_begins total b (bs ++ rest) first
@@ -134,22 +134,22 @@ token_of_word total b bs rest s small ends is =
 
 -- a word of small letters is the name with these letters
 pub next_of-word : (total : ℕ) (word rest : List ℕ) → is_small_word word ≡ true → EndsWord rest →
-    next_of total (word ++ rest) ≡ Ok (Some (record { sign = sign.Name word; from = place total (word ++ rest); to = place total (word ++ rest) + length word }, rest))
+    next_of total (word ++ rest) ≡ Ok (Some (record { kind = kind.Name word; from = place total (word ++ rest); to = place total (word ++ rest) + length word }, rest))
 next_of-word total [] rest h ends = absurd (cc)
-next_of-word total (b ∷ bs) rest h ends = token_of_word total b bs rest (sign.Name (b ∷ bs)) (small_bytes (b ∷ bs) h) ends (small_sign (place total (b ∷ bs ++ rest)) (b ∷ bs) h)
+next_of-word total (b ∷ bs) rest h ends = token_of_word total b bs rest (kind.Name (b ∷ bs)) (small_bytes (b ∷ bs) h) ends (small_kind (place total (b ∷ bs ++ rest)) (b ∷ bs) h)
 
 digit_begins : (b : ℕ) (bs : List ℕ) → is_ascii_digit b ≡ true → begins_number (b ∷ bs) ≡ true
 digit_begins b [] h = h
 digit_begins b (c ∷ bs) h = rw h refl
 
-digits_sign : (from b : ℕ) (bs : List ℕ) → all_ascii_digits (b ∷ bs) ≡ true → digits_value 10 (b ∷ bs) < 2 ^ 63 → word_sign from (b ∷ bs) ≡ Ok (sign.Number (pos (digits_value 10 (b ∷ bs))))
-digits_sign from b bs h below =
+digits_kind : (from b : ℕ) (bs : List ℕ) → all_ascii_digits (b ∷ bs) ≡ true → digits_value 10 (b ∷ bs) < 2 ^ 63 → word_kind from (b ∷ bs) ≡ Ok (kind.Number (pos (digits_value 10 (b ∷ bs))))
+digits_kind from b bs h below =
     let digit = (and_parts _ _ h).0 in
     rw (cond-true (begins_number (b ∷ bs)) _ _ (digit_begins b bs digit), plain_some b bs (λ minus. absurd (grind (arith, nat_tests))) h below) refl
 
 -- digits are the number that they write
 pub next_of-digits : (total : ℕ) (word rest : List ℕ) → all_ascii_digits word ≡ true → 0 < length word → digits_value 10 word < 2 ^ 63 → EndsWord rest →
-    next_of total (word ++ rest) ≡ Ok (Some (record { sign = sign.Number (pos (digits_value 10 word)); from = place total (word ++ rest); to = place total (word ++ rest) + length word }, rest))
+    next_of total (word ++ rest) ≡ Ok (Some (record { kind = kind.Number (pos (digits_value 10 word)); from = place total (word ++ rest); to = place total (word ++ rest) + length word }, rest))
 next_of-digits total [] rest h some below ends = absurd (omega arith)
 next_of-digits total (b ∷ bs) rest h some below ends =
-    token_of_word total b bs rest (sign.Number (pos (digits_value 10 (b ∷ bs)))) (digits_small (b ∷ bs) h) ends (digits_sign (place total (b ∷ bs ++ rest)) b bs h below)
+    token_of_word total b bs rest (kind.Number (pos (digits_value 10 (b ∷ bs)))) (digits_small (b ∷ bs) h) ends (digits_kind (place total (b ∷ bs ++ rest)) b bs h below)

@@ -1,17 +1,17 @@
 -- The word that stands at a place.
-use Rattle.std.proofs.Common.{◌≡◌, ℕ, ◌+◌, ◌-◌, ◌<◌, ◌≤◌, Bool, true, false, not, cond, List, length, get_or, take, drop, position, unwrap_or, Option, Some, None, Result, Ok, ℤ, refl, ap, ◌∙◌, length-drop, drop-drop, arith}
+use Rattle.std.proofs.Common.{◌≡◌, ℕ, ◌+◌, ◌-◌, ◌<◌, ◌≤◌, Bool, true, false, not, cond, List, length, get_or, take, drop, position, unwrap_or, Option, Some, None, Result, Ok, Err, IfSome, ℤ, refl, sym, ap, ◌∙◌, length-drop, drop-drop, arith}
 use Rattle.std.specs.List.{position_or_len}
 use Rattle.std.proofs.lemmas.Bool.{not_from_false}
 use Rattle.std.proofs.lemmas.Bool.Decides.{nat_tests}
 use Rattle.std.proofs.lemmas.List.{take_rest}
 use Rattle.std.proofs.lemmas.List.Sums.{prefix_len-le-length, prefix_len-drop_yes}
 use Rattle.st_token.specs.declared.fault.SexpFault.{SexpFault}
-use Rattle.st_token.specs.declared.fault.SexpFault.TheVariants.{Unclosed, Stray, BadNumber, TooDeep, NotUtf8, Memory}
-use Rattle.st_token.specs.declared.token.Sign.{Sign}
-use Rattle.st_token.specs.declared.token.Sign.TheVariants as sign
-use Rattle.st_token.specs.Answer.{Fails, IsOneByte}
+use Rattle.st_token.specs.declared.token.TokenKind.{TokenKind}
+use Rattle.st_token.specs.declared.token.TokenKind.TheVariants as kind
+use Rattle.st_text.specs.Answer.{Answers}
+use Rattle.st_token.specs.Answer.{told, IsOneByte}
 use Rattle.st_token.specs.Bytes.{ends_token}
-use Rattle.st_token.specs.Scan.{begins_number, number_of, number_sign, name_sign, word_sign, word_read, word_at}
+use Rattle.st_token.specs.Scan.{begins_number, number_of, number_kind, name_kind, word_kind, word_read, word_at}
 use Rattle.st_token.proofs.Places.{place-drop}
 
 -- the first place at which a test passes, or else the length
@@ -29,43 +29,39 @@ word_within bs from at begins =
     (omega (arith, first), omega (arith, all, length-drop from bs))
 
 word_at-place : (bs : List ℕ) (from : ℕ) → from ≤ length bs → word_at (length bs) (drop from bs) ≡
-    word_read from (drop from bs) (position_or_len ends_token (drop from bs)) (word_sign from (take (position_or_len ends_token (drop from bs)) (drop from bs)))
+    word_read from (drop from bs) (position_or_len ends_token (drop from bs)) (word_kind from (take (position_or_len ends_token (drop from bs)) (drop from bs)))
 word_at-place bs from at =
     let len = position_or_len ends_token (drop from bs) in
-    ap (λ (f : ℕ). word_read f (drop from bs) len (word_sign f (take len (drop from bs)))) (place-drop bs from at)
+    ap (λ (f : ℕ). word_read f (drop from bs) len (word_kind f (take len (drop from bs)))) (place-drop bs from at)
 
 -- the token of a word
-pub word_at-token : (bs : List ℕ) (from len : ℕ) (s : Sign) → from ≤ length bs → len ≡ position_or_len ends_token (drop from bs) → word_sign from (take len (drop from bs)) ≡ Ok s →
-    word_at (length bs) (drop from bs) ≡ Ok (Some (record { sign = s; from = from; to = from + len }, drop (from + len) bs))
+pub word_at-token : (bs : List ℕ) (from len : ℕ) (s : TokenKind) → from ≤ length bs → len ≡ position_or_len ends_token (drop from bs) → Ok s ≡ word_kind from (take len (drop from bs)) →
+    Ok (Some (record { kind = s; from = from; to = from + len }, drop (from + len) bs)) ≡ word_at (length bs) (drop from bs)
 word_at-token bs from len s at is read =
-    word_at-place bs from at ∙ (rw (← is, read, drop-drop len from bs) refl)
+    sym (word_at-place bs from at ∙ (rw (← is, ← read, drop-drop len from bs) refl))
 
-fails-word_read : (from len : ℕ) (text : List ℕ) (fault : SexpFault) (read : Result Sign SexpFault) → Fails fault read → Fails fault (word_read from text len read)
-fails-word_read from len text (Unclosed p) read h = ap (word_read from text len) h
-fails-word_read from len text (Stray p) read h = ap (word_read from text len) h
-fails-word_read from len text (BadNumber p) read h = ap (word_read from text len) h
-fails-word_read from len text (TooDeep p) read h = ap (word_read from text len) h
-fails-word_read from len text (NotUtf8 p) read h = ap (word_read from text len) h
-fails-word_read from len text Memory read h = tt
+fails-word_read : (from len : ℕ) (text : List ℕ) (found : Option SexpFault) (read : Result TokenKind SexpFault) → IfSome found (λ fault. Err fault ≡ read) → IfSome found (λ fault. Err fault ≡ word_read from text len read)
+fails-word_read from len text None read h = tt
+fails-word_read from len text (Some fault) read h = ap (word_read from text len) h
 
 -- a word that is none
-pub word_at-fault : (bs : List ℕ) (from len : ℕ) (fault : SexpFault) → from ≤ length bs → len ≡ position_or_len ends_token (drop from bs) → Fails fault (word_sign from (take len (drop from bs))) → Fails fault (word_at (length bs) (drop from bs))
+pub word_at-fault : (bs : List ℕ) (from len : ℕ) (fault : SexpFault) → from ≤ length bs → len ≡ position_or_len ends_token (drop from bs) → Answers told (Err fault) (word_kind from (take len (drop from bs))) → Answers told (Err fault) (word_at (length bs) (drop from bs))
 word_at-fault bs from len fault at is h =
-    rw (word_at-place bs from at, ← is) (fails-word_read from len (drop from bs) fault (word_sign from (take len (drop from bs))) h)
+    rw (word_at-place bs from at, ← is) (fails-word_read from len (drop from bs) (told fault) (word_kind from (take len (drop from bs))) h)
 
-is_word : (b : Bool) (from : ℕ) (number : Option ℤ) (word : List ℕ) (stray : Option ℕ) (s : Sign) (to : ℕ) → cond b (number_sign from number) (name_sign from word stray) ≡ Ok s → IsOneByte s from to
-is_word b from number word stray (sign.Name name) to h = tt
-is_word b from number word stray (sign.Number value) to h = tt
-is_word b from number word stray (sign.Quoted text) to h = tt
-is_word true from None word stray sign.Open to h = cc
-is_word true from (Some n) word stray sign.Open to h = cc
-is_word false from number word None sign.Open to h = cc
-is_word false from number word (Some i) sign.Open to h = cc
-is_word true from None word stray sign.Close to h = cc
-is_word true from (Some n) word stray sign.Close to h = cc
-is_word false from number word None sign.Close to h = cc
-is_word false from number word (Some i) sign.Close to h = cc
+is_word : (b : Bool) (from : ℕ) (number : Option ℤ) (word : List ℕ) (stray : Option ℕ) (s : TokenKind) (to : ℕ) → cond b (number_kind from number) (name_kind from word stray) ≡ Ok s → IsOneByte s from to
+is_word b from number word stray (kind.Name name) to h = tt
+is_word b from number word stray (kind.Number value) to h = tt
+is_word b from number word stray (kind.Quoted text) to h = tt
+is_word true from None word stray kind.Open to h = cc
+is_word true from (Some n) word stray kind.Open to h = cc
+is_word false from number word None kind.Open to h = cc
+is_word false from number word (Some i) kind.Open to h = cc
+is_word true from None word stray kind.Close to h = cc
+is_word true from (Some n) word stray kind.Close to h = cc
+is_word false from number word None kind.Close to h = cc
+is_word false from number word (Some i) kind.Close to h = cc
 
 -- a word is no parenthesis
-pub word_sign-one_byte : (from : ℕ) (word : List ℕ) (s : Sign) (to : ℕ) → word_sign from word ≡ Ok s → IsOneByte s from to
-word_sign-one_byte from word s to h = is_word (begins_number word) from (number_of word) word _ s to h
+pub word_kind-one_byte : (from : ℕ) (word : List ℕ) (s : TokenKind) (to : ℕ) → Ok s ≡ word_kind from word → IsOneByte s from to
+word_kind-one_byte from word s to h = is_word (begins_number word) from (number_of word) word _ s to (sym h)

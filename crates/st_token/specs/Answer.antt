@@ -1,37 +1,35 @@
 -- What a reader of the code answers, beside what is read by definition.
-use Rattle.std.specs.Prelude.{◌≡◌, ℕ, ◌+◌, ◌<◌, ◌≤◌, List, length, drop, Option, Some, None, Result, Ok, Err, ⊤}
+use Rattle.std.specs.Prelude.{◌≡◌, ℕ, ◌+◌, ◌<◌, ◌≤◌, List, length, drop, Option, Some, None, Result, ⊤}
+use Rattle.std.specs.Option.{option_map}
+use Rattle.std.specs.Result.{result_map_both}
 use Rattle.st_token.specs.declared.fault.SexpFault.{SexpFault}
 use Rattle.st_token.specs.declared.fault.SexpFault.TheVariants.{Memory}
 use Rattle.st_token.specs.declared.token.Token.{Token}
-use Rattle.st_token.specs.declared.token.Sign.{Sign}
-use Rattle.st_token.specs.declared.token.Sign.TheVariants as sign
+use Rattle.st_token.specs.declared.token.TokenKind.{TokenKind}
+use Rattle.st_token.specs.declared.token.TokenKind.TheVariants as kind
 use Rattle.st_token.specs.Scan.{Read}
 
--- a fault is the one of the definition, want of memory aside
-abbrev pub Fails : {A : Type 0} → SexpFault → Result A SexpFault → Type 0
-Fails Memory read = ⊤
-Fails fault read = read ≡ Err fault
+-- what a fault tells of the text; want of memory tells nothing
+abbrev pub told : SexpFault → Option SexpFault
+told Memory = None
+told fault = Some fault
 
--- the answer of a part of the reader is what is read by definition, want of memory aside
-abbrev pub GivesPart : {A : Type 0} → Result A SexpFault → Result A SexpFault → Type 0
-GivesPart (Ok part) read = read ≡ Ok part
-GivesPart (Err fault) read = Fails fault read
+-- an answer with what is left of the text behind it: from a place in it on
+abbrev pub content_read : List ℕ → Result (List ℕ × ℕ) SexpFault → Result (List ℕ × List ℕ) SexpFault
+content_read bytes result = result_map_both (λ found. (found.0, drop found.1 bytes)) (λ fault. fault) result
 
 -- the same of a token; what is left begins where the token ends
-abbrev pub GivesToken : List ℕ → Result Token SexpFault → Read → Type 0
-GivesToken bytes (Ok token) read = read ≡ Ok (Some (token, drop token.to bytes))
-GivesToken bytes (Err fault) read = Fails fault read
+abbrev pub token_read : List ℕ → Result Token SexpFault → Read
+token_read bytes result = result_map_both (λ token. Some (token, drop token.to bytes)) (λ fault. fault) result
 
--- the answer is what is read by definition, want of memory aside; what is left begins where the token ends
-abbrev pub Gives : List ℕ → Result (Option Token) SexpFault → Read → Type 0
-Gives bytes (Ok None) read = read ≡ Ok None
-Gives bytes (Ok (Some token)) read = read ≡ Ok (Some (token, drop token.to bytes))
-Gives bytes (Err fault) read = Fails fault read
+-- the same where there may be no token
+abbrev pub next_read : List ℕ → Result (Option Token) SexpFault → Read
+next_read bytes result = result_map_both (λ found. option_map (λ token. (token, drop token.to bytes)) found) (λ fault. fault) result
 
 -- a parenthesis is one byte long
-abbrev pub IsOneByte : Sign → ℕ → ℕ → Type 0
-IsOneByte sign.Open from to = to ≡ from + 1
-IsOneByte sign.Close from to = to ≡ from + 1
+abbrev pub IsOneByte : TokenKind → ℕ → ℕ → Type 0
+IsOneByte kind.Open from to = to ≡ from + 1
+IsOneByte kind.Close from to = to ≡ from + 1
 IsOneByte _ from to = ⊤
 
 -- a token behind a place, inside the text
@@ -39,4 +37,4 @@ pub record StandsBehind (bytes : List ℕ) (at : ℕ) (token : Token) : Type 0 w
   pub begins : at ≤ token.from
   pub some : token.from < token.to
   pub ends : token.to ≤ length bytes
-  pub one_byte : IsOneByte token.sign token.from token.to
+  pub one_byte : IsOneByte token.kind token.from token.to

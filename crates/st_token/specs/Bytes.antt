@@ -13,7 +13,7 @@ ends_token b = is_blank b || b == 40 || b == 41 || b == 34 || b == 59
 
 -- a letter, a digit, or one of - _ . # : / = < > + * ? !
 abbrev pub is_name_byte : ℕ → Bool
-is_name_byte b = is_ascii_lowercase b || is_ascii_uppercase b || is_ascii_digit b || list_any (λ sign. sign == b) (codes "-_.#:/=<>+*?!")
+is_name_byte b = is_ascii_lowercase b || is_ascii_uppercase b || is_ascii_digit b || list_any (λ mark. mark == b) (codes "-_.#:/=<>+*?!")
 
 -- what may stand behind a backslash: a quote, a backslash, the letter n
 abbrev pub is_escape : ℕ → Bool

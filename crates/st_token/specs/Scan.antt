@@ -8,8 +8,8 @@ use Rattle.std.specs.Str.Parse.{digits_value}
 use Rattle.st_token.specs.declared.fault.SexpFault.{SexpFault}
 use Rattle.st_token.specs.declared.fault.SexpFault.TheVariants.{Unclosed, Stray, BadNumber}
 use Rattle.st_token.specs.declared.token.Token.{Token}
-use Rattle.st_token.specs.declared.token.Sign.{Sign}
-use Rattle.st_token.specs.declared.token.Sign.TheVariants as sign
+use Rattle.st_token.specs.declared.token.TokenKind.{TokenKind}
+use Rattle.st_token.specs.declared.token.TokenKind.TheVariants as kind
 use Rattle.st_token.specs.Bytes.{is_blank, ends_token, is_name_byte, is_escape}
 
 -- where what is left begins
@@ -54,49 +54,49 @@ number_of (b ∷ bs) =
     else (if all_ascii_digits (b ∷ bs) && nat_lt (digits_value 10 (b ∷ bs)) (2 ^ 63) then Some (pos (digits_value 10 (b ∷ bs))) else None)
 
 -- a number, or a fault at its start
-abbrev pub number_sign : ℕ → Option ℤ → Result Sign SexpFault
-number_sign from None = Err (BadNumber from)
-number_sign from (Some number) = Ok (sign.Number number)
+abbrev pub number_kind : ℕ → Option ℤ → Result TokenKind SexpFault
+number_kind from None = Err (BadNumber from)
+number_kind from (Some number) = Ok (kind.Number number)
 
 -- a name in small letters, or a fault at its first byte that no name has
-abbrev pub name_sign : ℕ → List ℕ → Option ℕ → Result Sign SexpFault
-name_sign from word None = Ok (sign.Name (map to_ascii_lowercase word))
-name_sign from word (Some i) = Err (Stray (from + i))
+abbrev pub name_kind : ℕ → List ℕ → Option ℕ → Result TokenKind SexpFault
+name_kind from word None = Ok (kind.Name (map to_ascii_lowercase word))
+name_kind from word (Some i) = Err (Stray (from + i))
 
 -- a token that is no list's end and no quoted text
-abbrev pub word_sign : ℕ → List ℕ → Result Sign SexpFault
-word_sign from word =
-    if begins_number word then number_sign from (number_of word) else name_sign from word (position (λ b. not (is_name_byte b)) word)
+abbrev pub word_kind : ℕ → List ℕ → Result TokenKind SexpFault
+word_kind from word =
+    if begins_number word then number_kind from (number_of word) else name_kind from word (position (λ b. not (is_name_byte b)) word)
 
 -- what is read at the front of a text: a token and what is left behind it, or a fault; None at the end
 abbrev pub Read : Type 0
 Read = Result (Option (Token × List ℕ)) SexpFault
 
 -- a word as long as it goes
-abbrev pub word_read : ℕ → List ℕ → ℕ → Result Sign SexpFault → Read
-word_read from text len (Ok s) = Ok (Some (record { sign = s; from = from; to = from + len }, drop len text))
+abbrev pub word_read : ℕ → List ℕ → ℕ → Result TokenKind SexpFault → Read
+word_read from text len (Ok s) = Ok (Some (record { kind = s; from = from; to = from + len }, drop len text))
 word_read from text len (Err fault) = Err fault
 
 abbrev pub word_at : ℕ → List ℕ → Read
 word_at total text =
-    let len = position_or_len ends_token text in word_read (place total text) text len (word_sign (place total text) (take len text))
+    let len = position_or_len ends_token text in word_read (place total text) text len (word_kind (place total text) (take len text))
 
 -- a quoted text behind its opening quote
 abbrev pub quote_read : ℕ → ℕ → Result (List ℕ × List ℕ) SexpFault → Read
-quote_read total from (Ok found) = Ok (Some (record { sign = sign.Quoted (found.0); from = from; to = place total (found.1) }, found.1))
+quote_read total from (Ok found) = Ok (Some (record { kind = kind.Quoted (found.0); from = from; to = place total (found.1) }, found.1))
 quote_read total from (Err fault) = Err fault
 
 -- a parenthesis, which is one byte
-abbrev pub parenthesis : Sign → ℕ → List ℕ → Read
-parenthesis s from bs = Ok (Some (record { sign = s; from = from; to = from + 1 }, bs))
+abbrev pub parenthesis : TokenKind → ℕ → List ℕ → Read
+parenthesis s from bs = Ok (Some (record { kind = s; from = from; to = from + 1 }, bs))
 
 -- a token at the front of the text, with no gap before it
 abbrev pub token_at : ℕ → List ℕ → Read
 token_at total [] = Ok None
 token_at total (b ∷ bs) =
     let from = place total (b ∷ bs) in
-    if b == 40 then parenthesis sign.Open from bs
-    else (if b == 41 then parenthesis sign.Close from bs
+    if b == 40 then parenthesis kind.Open from bs
+    else (if b == 41 then parenthesis kind.Close from bs
     else (if b == 34 then quote_read total from (quoted total from false bs) else word_at total (b ∷ bs)))
 
 -- the next token of what is left of a text

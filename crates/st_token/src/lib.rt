@@ -12,4 +12,4 @@ mod word;
 pub use fault::SexpFault;
 pub use scan::next;
 pub use st_text::Letters;
-pub use token::{Sign, Token};
+pub use token::{Token, TokenKind};

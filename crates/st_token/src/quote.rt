@@ -1,10 +1,11 @@
 //! Quoted texts.
-ghost use Rattle.std.specs.Prelude.{◌≡◌, ◌+◌, ◌<◌, ◌≤◌, IfOk, MatchResult, Ok, false, length, drop, IsUtf8, slice_index};
+ghost use Rattle.std.specs.Prelude.{◌≡◌, ◌+◌, ◌<◌, ◌≤◌, IfOk, false, length, drop, IsUtf8, slice_index};
 ghost use Rattle.st_token.specs.Scan.{escape_of, quoted, quote_read};
-ghost use Rattle.st_token.specs.Answer.{Fails, GivesToken, StandsBehind};
+ghost use Rattle.st_text.specs.Answer.{Answers};
+ghost use Rattle.st_token.specs.Answer.{told, content_read, token_read, StandsBehind};
 
 use crate::bytes::is_escape;
-use crate::{SexpFault, Sign, Token};
+use crate::{SexpFault, Token, TokenKind};
 use st_text::Letters;
 use std::alloc::Global;
 
@@ -21,8 +22,7 @@ fn quoted(alloc: Global, bytes: &[u8], from: usize) -> Result<(Letters, usize), 
     requires size { length bytes.now ≤ 1048576 }
     requires quote { slice_index bytes.now from ≡ 34 }
     requires utf8 { IsUtf8 bytes.now }
-    ensures read { let read = quoted (length bytes.now) from false (drop (from + 1) bytes.now) in
-        MatchResult result (λ found. read ≡ Ok (found.0, drop found.1 bytes.now)) (λ fault. Fails fault read) }
+    ensures read { Answers told (content_read bytes.now result) (quoted (length bytes.now) from false (drop (from + 1) bytes.now)) }
     ensures from { IfOk result (λ found. from + 1 < found.1) }
     ensures within { IfOk result (λ found. found.1 ≤ length bytes.now) }
 {
@@ -55,12 +55,12 @@ pub(crate) fn read_quoted(alloc: Global, bytes: &[u8], from: usize) -> Result<To
     requires size { length bytes.now ≤ 1048576 }
     requires quote { slice_index bytes.now from ≡ 34 }
     requires utf8 { IsUtf8 bytes.now }
-    ensures read { GivesToken bytes.now result (quote_read (length bytes.now) from (quoted (length bytes.now) from false (drop (from + 1) bytes.now))) }
+    ensures read { Answers told (token_read bytes.now result) (quote_read (length bytes.now) from (quoted (length bytes.now) from false (drop (from + 1) bytes.now))) }
     ensures within { IfOk result (StandsBehind bytes.now from) }
 {
     let (content, to) = quoted(alloc, bytes, from)?;
     Ok(Token {
-        sign: Sign::Quoted(content),
+        kind: TokenKind::Quoted(content),
         from: from as u32,
         to: to as u32,
     })

@@ -2,7 +2,7 @@ use st_text::Letters;
 
 /// What a token is.
 #[derive(Debug, Drop)]
-pub enum Sign {
+pub enum TokenKind {
     /// `(`
     Open,
     /// `)`
@@ -17,7 +17,7 @@ pub enum Sign {
 /// A token, and its bytes in the text: those from `from` on and before `to`.
 #[derive(Debug, Drop)]
 pub struct Token {
-    pub sign: Sign,
+    pub kind: TokenKind,
     pub from: u32,
     pub to: u32,
 }

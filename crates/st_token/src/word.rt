@@ -2,11 +2,12 @@
 ghost use Rattle.std.specs.Prelude.{◌≡◌, ◌+◌, ◌<◌, ◌≤◌, IsTrue, IfOk, not, false, length, drop, map, position, slice_index};
 ghost use Rattle.std.specs.Char.{to_ascii_lowercase};
 ghost use Rattle.st_token.specs.Bytes.{ends_token, is_name_byte};
-ghost use Rattle.st_token.specs.Scan.{begins_number, number_of, word_sign, word_at};
-ghost use Rattle.st_token.specs.Answer.{GivesPart, GivesToken, StandsBehind};
+ghost use Rattle.st_token.specs.Scan.{begins_number, number_of, word_kind, word_at};
+ghost use Rattle.st_text.specs.Answer.{Answers};
+ghost use Rattle.st_token.specs.Answer.{told, token_read, StandsBehind};
 
 use crate::bytes::{ends_token, is_name_byte};
-use crate::{SexpFault, Sign, Token};
+use crate::{SexpFault, Token, TokenKind};
 use st_text::Letters;
 use std::alloc::{AllocError, Global};
 
@@ -49,13 +50,13 @@ fn first_stray(word: &[u8]) -> Option<usize>
 }
 
 /// What the word is that begins at the place `from`.
-fn word_sign(alloc: Global, word: &[u8], from: u32) -> Result<Sign, SexpFault>
+fn word_kind(alloc: Global, word: &[u8], from: u32) -> Result<TokenKind, SexpFault>
     requires { from + length word.now ≤ 1048576 }
-    ensures { GivesPart result (word_sign from word.now) }
+    ensures { Answers told result (word_kind from word.now) }
 {
     if begins_number(word) {
         return match number_of(word) {
-            Some(number) => Ok(Sign::Number(number)),
+            Some(number) => Ok(TokenKind::Number(number)),
             None => Err(SexpFault::BadNumber { place: from }),
         };
     }
@@ -63,7 +64,7 @@ fn word_sign(alloc: Global, word: &[u8], from: u32) -> Result<Sign, SexpFault>
         Some(i) => Err(SexpFault::Stray {
             place: from + i as u32,
         }),
-        None => Ok(Sign::Name(small_letters(alloc, word)?)),
+        None => Ok(TokenKind::Name(small_letters(alloc, word)?)),
     }
 }
 
@@ -79,14 +80,14 @@ pub(crate) fn read_word(alloc: Global, bytes: &[u8], from: usize) -> Result<Toke
     requires at { from < length bytes.now }
     requires size { length bytes.now ≤ 1048576 }
     requires begins { ends_token (slice_index bytes.now from) ≡ false }
-    ensures read { GivesToken bytes.now result (word_at (length bytes.now) (drop from bytes.now)) }
+    ensures read { Answers told (token_read bytes.now result) (word_at (length bytes.now) (drop from bytes.now)) }
     ensures within { IfOk result (StandsBehind bytes.now from) }
 {
     let rest = &bytes[from..];
     let len = first_end(rest).unwrap_or(rest.len());
-    let sign = word_sign(alloc, &rest[..len], from as u32)?;
+    let kind = word_kind(alloc, &rest[..len], from as u32)?;
     Ok(Token {
-        sign,
+        kind,
         from: from as u32,
         to: (from + len) as u32,
     })
