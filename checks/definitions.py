@@ -27,8 +27,8 @@ SIGNS = dict(zip(["=", "/=", "<", "<=", ">", ">="], "Equal Differs Below AtMost 
 SPECS = """use Rattle.std.specs.Prelude.{ℕ, pos, negsuc, true, false, List, [], ◌∷◌, codes, Some, None}
 use Rattle.st_values.specs.declared.value.Kind.TheVariants as kind
 use Rattle.st_lattice.specs.Outline.{Outline}
-use Rattle.st_query.specs.declared.statement.Condition.TheVariants as condition
-use Rattle.st_query.specs.declared.statement.Sign.TheVariants as sign
+use Rattle.st_query.specs.declared.query.Condition.TheVariants as condition
+use Rattle.st_query.specs.declared.query.Sign.TheVariants as sign
 use Rattle.st_query.specs.declared.statement.Statement.{Statement}
 use Rattle.st_query.specs.declared.statement.Statement.TheVariants.{Make, Set, Add, Take, Delete, Find}
 use Rattle.st_query.specs.declared.statement.Statement.TheVariants.{Ensure, Let, Print, ForEach, Abort}
@@ -41,7 +41,7 @@ ANSWERS = """use Rattle.std.proofs.Common.{refl}
 use Rattle.std.specs.Fmt.{digits}
 use Rattle.st_query.specs.Ways.{way}
 use Rattle.st_meaning.specs.Terms.{term_meaning}
-use Rattle.st_meaning.specs.Kinds.{term_refused}
+use Rattle.st_meaning.specs.Checks.{term_refused}
 use Rattle.st_meaning.specs.Rules.{refusal}
 use Rattle.st_meaning.specs.Runs.{runs, runs_statement}
 use Rattle.st_meaning.specs.Lines.{client_lines}

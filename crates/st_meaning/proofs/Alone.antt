@@ -7,26 +7,34 @@ use Rattle.st_values.specs.declared.value.Kind.TheVariants as kind
 use Rattle.st_values.specs.declared.value.Value.{Value}
 use Rattle.st_values.specs.declared.value.Value.TheVariants as value
 use Rattle.st_lattice.specs.declared.attribute.Attribute.{Attribute}
-use Rattle.st_lattice.specs.Outline.{Outline, type_named}
-use Rattle.st_lattice.specs.Lattice.{attribute_of}
+use Rattle.st_lattice.specs.declared.called.Called.{Called}
+use Rattle.st_lattice.specs.declared.called.Called.TheVariants.{Nothing, Own, Inverse}
+use Rattle.st_lattice.specs.Outline.{Outline, type_named, attribute_name}
+use Rattle.st_lattice.specs.Lattice.{attribute_of, by_number}
+use Rattle.st_lattice.specs.Called.{called}
 use Rattle.st_query.specs.declared.statement.Cell.{Cell}
-use Rattle.st_query.specs.declared.statement.Condition.{Condition}
-use Rattle.st_query.specs.declared.statement.Condition.TheVariants as condition
-use Rattle.st_query.specs.declared.statement.Query.{Query}
+use Rattle.st_query.specs.declared.query.Condition.{Condition}
+use Rattle.st_query.specs.declared.query.Condition.TheVariants as condition
+use Rattle.st_query.specs.declared.query.Query.{Query}
 use Rattle.st_query.specs.declared.statement.Statement.{Statement}
 use Rattle.st_query.specs.declared.statement.Statement.TheVariants.{Make, Set, Add, Take, Delete, Find, Ensure, Let, Print, ForEach, Abort}
 use Rattle.st_query.specs.declared.term.Term.{Term}
+use Rattle.st_query.specs.declared.kind.Typing.{Typing}
+use Rattle.st_query.specs.declared.kind.Expected.{Expected}
+use Rattle.st_query.specs.declared.kind.Expected.TheVariants.{Anything, AnyValue}
 use Rattle.st_query.specs.Ways.{Start, way}
+use Rattle.st_query.specs.Kinds.{Known, known, known_in, fits, start_typing, start_name, feature_typing, expected_under, expected_in}
+use Rattle.st_query.specs.Written.{starts_of}
 use Rattle.st_state.specs.declared.refusal.Refusal.{Refusal}
 use Rattle.st_state.specs.declared.refusal.Refusal.TheVariants.{NullNotAllowed}
 use Rattle.st_state.specs.State.{State, is_live}
-use Rattle.st_meaning.specs.Terms.{Called, Nothing, Own, Inverse, called, start_value}
+use Rattle.st_state.specs.Refusals.{first_of}
+use Rattle.st_state.specs.Bases.{shared_with, still_needed, needed, needed_by, last_serial, spent}
+use Rattle.st_meaning.specs.Terms.{start_value}
 use Rattle.st_meaning.specs.Selection.{is_null}
 use Rattle.st_meaning.specs.Statements.{Present, value_now}
-use Rattle.st_meaning.specs.Kinds.{first_of, Place, Anything, AnyValue, Known, known, Head, Unknown, Shaped, fits, start_head, feature_head, place_under, fit_or_refused, way_refused, term_refused}
-use Rattle.st_meaning.specs.Checks
-use Rattle.st_meaning.specs.Checks.{wrong_unless, cell_name_refused, key_name_refused, cell_refused, key_refused, cells_refused, ensure_refused, typed_refused, set_refused, member_refused, condition_refused, parts_refused, text_refused}
-use Rattle.st_meaning.specs.Rules.{rule_10, rule_11, rule_8, rule_6, rule_9, rules, refusal, dead, null_target, starts_of, fillings, Filling, too_long, missing, shared, shared_with, filled_by, still_needed, needed, needed_by, by_number, spent, spent_unless_found, attribute_name}
+use Rattle.st_meaning.specs.Checks.{wrong_unless, cell_name_refused, key_name_refused, cell_refused, key_refused, cells_refused, ensure_refused, typed_refused, set_refused, member_refused, condition_refused, parts_refused, text_refused, fit_or_refused, way_refused, term_refused}
+use Rattle.st_meaning.specs.Rules.{rule_10, rule_11, rule_8, rule_6, rule_9, rules, refusal, dead, null_target, fillings, Filling, too_long, missing, shared, filled_by, needed_value, spent_type, spent_unless_found}
 use Rattle.st_meaning.specs.Laws.{is_by, are_by, order_of_rules, IsFirst}
 
 module _ (ns : List ℕ) where
@@ -62,19 +70,19 @@ wrong-by : (b : Bool) → By text (wrong_unless b)
 wrong-by true = refl
 wrong-by false = refl
 
-fit-by : (schema : Outline) (place : Place) (head : Head) → By text (fit_or_refused schema place head)
-fit-by schema place (Unknown name) = refl
-fit-by schema place (Shaped shape) = by-unless text (fits schema place shape) _ refl
+fit-by : (schema : Outline) (expected : Expected) (name : List ℕ) (typing : Option Typing) → By text (fit_or_refused schema expected name typing)
+fit-by schema expected name None = refl
+fit-by schema expected name (Some typing) = by-unless text (fits schema expected typing) _ refl
 
-way-by : (schema : Outline) (names : List Known) (place : Place) (features : List (List ℕ)) (start : Start) → By text (way_refused schema names place features start)
-way-by schema names place [] start = fit-by schema place (start_head schema names start)
-way-by schema names place (feature ∷ features) start =
-    by-cons text (fit_or_refused schema place (feature_head feature (called schema feature))) _ (fit-by schema place (feature_head feature (called schema feature)))
-    (by-cons text (way_refused schema names (place_under (called schema feature)) features start) [] (way-by schema names (place_under (called schema feature)) features start) refl)
+way-by : (schema : Outline) (names : List Known) (expected : Expected) (features : List (List ℕ)) (start : Start) → By text (way_refused schema names expected features start)
+way-by schema names expected [] start = fit-by schema expected (start_name start) (start_typing schema names start)
+way-by schema names expected (feature ∷ features) start =
+    by-cons text (fit_or_refused schema expected feature (feature_typing (called schema feature))) _ (fit-by schema expected feature (feature_typing (called schema feature)))
+    (by-cons text (way_refused schema names (expected_under (called schema feature)) features start) [] (way-by schema names (expected_under (called schema feature)) features start) refl)
 
-term-by : (schema : Outline) (names : List Known) (place : Place) (term : Term) → By text (term_refused schema names place term)
+term-by : (schema : Outline) (names : List Known) (expected : Expected) (term : Term) → By text (term_refused schema names expected term)
 unfolding term_refused
-term-by schema names place term = way-by schema names place (way term).features (way term).start
+term-by schema names expected term = way-by schema names expected (way term).features (way term).start
 
 cell_name-by : (name : List ℕ) (o : Option Attribute) → By text (cell_name_refused name o)
 cell_name-by name None = refl
@@ -87,12 +95,12 @@ key_name-by name (Some a) = wrong-by a.unique
 cell-by : (schema : Outline) (names : List Known) (ty : ℕ) (cell : Cell) → By text (cell_refused schema names ty cell)
 cell-by schema names ty cell =
     by-cons text (cell_name_refused cell.name (attribute_of schema ty cell.name)) _ (cell_name-by cell.name (attribute_of schema ty cell.name))
-    (by-cons text (term_refused schema names (Checks.place_in (attribute_of schema ty cell.name)) cell.value) [] (term-by schema names _ cell.value) refl)
+    (by-cons text (term_refused schema names (expected_in (attribute_of schema ty cell.name)) cell.value) [] (term-by schema names _ cell.value) refl)
 
 key-by : (schema : Outline) (names : List Known) (ty : ℕ) (key : List ℕ) (term : Term) → By text (key_refused schema names ty key term)
 key-by schema names ty key term =
     by-cons text (key_name_refused key (attribute_of schema ty key)) _ (key_name-by key (attribute_of schema ty key))
-    (by-cons text (term_refused schema names (Checks.place_in (attribute_of schema ty key)) term) [] (term-by schema names _ term) refl)
+    (by-cons text (term_refused schema names (expected_in (attribute_of schema ty key)) term) [] (term-by schema names _ term) refl)
 
 ensure-by : (schema : Outline) (names : List Known) (ty : ℕ) (cells : List Cell) → By text (ensure_refused schema names ty cells)
 ensure-by schema names ty [] = refl
@@ -104,19 +112,19 @@ typed-by : (name : List ℕ) (others : ℕ → Option Refusal) (o : Option ℕ) 
 typed-by name others None h = refl
 typed-by name others (Some ty) h = h ty
 
-two-by : (schema : Outline) (names : List Known) (first second : Place) (target written : Term)
+two-by : (schema : Outline) (names : List Known) (first second : Expected) (target written : Term)
     → By text (first_of (term_refused schema names first target ∷ term_refused schema names second written ∷ []))
 two-by schema names first second target written =
     by-cons text (term_refused schema names first target) _ (term-by schema names first target)
     (by-cons text (term_refused schema names second written) [] (term-by schema names second written) refl)
 
-set-by : (schema : Outline) (names : List Known) (feature : List ℕ) (target written : Term) (by : Called) → By text (set_refused schema names feature target written by)
+set-by : (schema : Outline) (names : List Known) (feature : List ℕ) (target written : Term) (by : Called Attribute) → By text (set_refused schema names feature target written by)
 set-by schema names feature target written Nothing = refl
 set-by schema names feature target written (Inverse a) = refl
 set-by schema names feature target written (Own a) =
     by-cons text (wrong_unless (not a.many)) _ (wrong-by (not a.many)) (two-by schema names _ _ target written)
 
-member-by : (schema : Outline) (names : List Known) (feature : List ℕ) (target written : Term) (by : Called) → By text (member_refused schema names feature target written by)
+member-by : (schema : Outline) (names : List Known) (feature : List ℕ) (target written : Term) (by : Called Attribute) → By text (member_refused schema names feature target written by)
 member-by schema names feature target written Nothing = refl
 member-by schema names feature target written (Inverse a) = refl
 member-by schema names feature target written (Own a) =
@@ -145,7 +153,7 @@ text-by schema names (Find var ty key written) = typed-by ty _ (type_named schem
 text-by schema names (Ensure var ty cells) = typed-by ty _ (type_named schema ty) (λ t. ensure-by schema names t cells)
 text-by schema names (Let var written) = term-by schema names _ written
 text-by schema names (Print terms) = by-map text (term_refused schema names Anything) terms (term-by schema names Anything)
-text-by schema names (ForEach query) = typed-by query.ty _ (type_named schema query.ty) (λ t. parts-by schema query (Checks.known_in names query t))
+text-by schema names (ForEach query) = typed-by query.ty _ (type_named schema query.ty) (λ t. parts-by schema query (known_in names query t))
 text-by schema names Abort = refl
 
 abort-by : (p : Present) (s : Statement) → By (10 ∷ []) (rule_10 p s)
@@ -199,25 +207,31 @@ needed_by-by : (schema : Outline) (a : Attribute) (o : Option EntityId) → By (
 needed_by-by schema a None = refl
 needed_by-by schema a (Some e) = refl
 
-still-by : (state : State) (v : Value) → By (6 ∷ []) (still_needed state v)
-still-by state (value.Entity e) = by-map (6 ∷ []) (needed state e) (by_number state.schema) (λ a. by-when (6 ∷ []) a.no_nulls _ (needed_by-by state.schema a _))
-still-by state _ = refl
+still-by : (state : State) (e : EntityId) → By (6 ∷ []) (still_needed state e)
+still-by state e = by-map (6 ∷ []) (needed state e) (by_number state.schema) (λ a. by-when (6 ∷ []) a.no_nulls _ (needed_by-by state.schema a _))
+
+needed-by : (state : State) (v : Value) → By (6 ∷ []) (needed_value state v)
+needed-by state (value.Entity e) = still-by state e
+needed-by state _ = refl
 
 deleted-by : (p : Present) (s : Statement) → By (6 ∷ []) (rule_6 p s)
-deleted-by p (Delete target) = still-by p.state (value_now p target)
+deleted-by p (Delete target) = needed-by p.state (value_now p target)
 deleted-by p _ = refl
 
-spent-by : (state : State) (name : List ℕ) (o : Option ℕ) → By (9 ∷ []) (spent state name o)
-spent-by state name None = refl
-spent-by state name (Some ty) = by-unless (9 ∷ []) (nat_lt (slice_index state.last ty) 4294967295) _ refl
+spent-by : (state : State) (ty : ℕ) → By (9 ∷ []) (spent state ty)
+spent-by state ty = by-unless (9 ∷ []) (nat_lt (slice_index state.last ty) last_serial) _ refl
 
-unless_found-by : (state : State) (name : List ℕ) (found : Option EntityId) (o : Option ℕ) → By (9 ∷ []) (spent_unless_found state name found o)
-unless_found-by state name (Some e) o = refl
-unless_found-by state name None o = spent-by state name o
+spent_type-by : (state : State) (o : Option ℕ) → By (9 ∷ []) (spent_type state o)
+spent_type-by state None = refl
+spent_type-by state (Some ty) = spent-by state ty
+
+unless_found-by : (state : State) (found : Option EntityId) (o : Option ℕ) → By (9 ∷ []) (spent_unless_found state found o)
+unless_found-by state (Some e) o = refl
+unless_found-by state None o = spent_type-by state o
 
 numbers-by : (p : Present) (s : Statement) → By (9 ∷ []) (rule_9 p s)
-numbers-by p (Make var ty cells) = spent-by p.state ty (type_named p.state.schema ty)
-numbers-by p (Ensure var ty cells) = unless_found-by p.state ty (filled_by p (Ensure var ty cells)) (type_named p.state.schema ty)
+numbers-by p (Make var ty cells) = spent_type-by p.state (type_named p.state.schema ty)
+numbers-by p (Ensure var ty cells) = unless_found-by p.state (filled_by p (Ensure var ty cells)) (type_named p.state.schema ty)
 numbers-by p _ = refl
 
 both : (a b : Bool) → IsTrue a → IsTrue b → IsTrue (a && b)

@@ -6,20 +6,19 @@ use Rattle.std.specs.Str.{bytes_eq}
 use Rattle.std.proofs.lemmas.Slice.Eq.{bytes_eq-Decides}
 use Rattle.st_values.specs.declared.value.EntityId.{EntityId}
 use Rattle.st_values.specs.declared.value.Value.{Value}
-use Rattle.st_values.specs.Order.{same_value}
+use Rattle.st_values.specs.Order.{same_value, same_entity}
 use Rattle.st_values.specs.Arranged.{each_pair}
-use Rattle.st_values.proofs.Placing.{both, left, right, either, all-weaken}
+use Rattle.st_values.proofs.Entities.{same_entity-itself}
+use Rattle.st_values.proofs.Tests.{not-true, first-of, other-of, never, all-two, both, left, right, either, all-weaken}
 use Rattle.st_lattice.specs.declared.attribute.Attribute.{Attribute}
 use Rattle.st_lattice.specs.Outline.{Outline, attribute}
 use Rattle.st_lattice.specs.Lattice.{isa, attributes_in, attribute_of}
 use Rattle.st_lattice.specs.Stores.{passes}
-use Rattle.st_lattice.specs.Plain.{IsPlain}
+use Rattle.st_lattice.specs.Consistent.{IsConsistent}
 use Rattle.st_query.specs.declared.statement.Cell.{Cell}
 use Rattle.st_state.specs.declared.triple.Triple.{Triple}
-use Rattle.st_state.specs.State.{State, same_entity, is_live, is_at, turned, attribute_set}
+use Rattle.st_state.specs.State.{State, is_live, is_at, turned, attribute_set}
 use Rattle.st_state.specs.Legal.{can_hold, IsNearlyLegal, IsLegal}
-use Rattle.st_state.proofs.Orders.{same_entity-itself}
-use Rattle.st_state.proofs.Tests.{not-true, first-of, other-of, never, all-two}
 use Rattle.st_state.proofs.Changed.{number-is, number-itself, found-only, new}
 use Rattle.st_state.proofs.Set.{null, set-nearly, set-legal, all-set, elsewhere-stays, here-set}
 use Rattle.st_state.proofs.Members.{Member, some-is, find-passes, find-member, filter-member, member-filter, nothing-found, find-number}
@@ -60,7 +59,7 @@ find-filter f g (x ∷ xs) =
     either (f x) (λ b. find g (cond b (x ∷ filter f xs) (filter f xs)) ≡ cond (b && g x) (Some x) (find (λ y. f y && g y) xs))
     (λ _. ap (λ o. cond (g x) (Some x) o) (find-filter f g xs)) (λ _. find-filter f g xs)
 
-module _ (schema : Outline) (plain : IsPlain schema) (ty : ℕ) where
+module _ (schema : Outline) (plain : IsConsistent schema) (ty : ℕ) where
   -- an attribute of a type, found by its name
   pub record Found (name : List ℕ) (a : Attribute) : Type 0 where
     pub of_type : isa schema ty a.owner ≡ true
@@ -135,7 +134,7 @@ module _ (n : EntityId) (ty : ℕ) where
 
   -- the entity has the attributes of the type
   owns : (s : State) → IsNearlyLegal s → isa s.schema n.ty ty ≡ true → (name : List ℕ) (a : Attribute) → attribute_of s.schema ty name ≡ Some a → isa s.schema n.ty a.owner ≡ true
-  owns s g o name a f = isa-chain s.schema g.orderly n.ty ty a.owner o (found s.schema g.plain ty name a f).of_type
+  owns s g o name a f = isa-chain s.schema g.orderly n.ty ty a.owner o (found s.schema g.consistent ty name a f).of_type
 
   pub cells-nearly : (cs : List Cell) (vs : List Value) (s : State) → IsNearlyLegal s → is_live s n ≡ true → isa s.schema n.ty ty ≡ true → CanAll s cs vs → IsNearlyLegal (cells_set ty n cs vs s)
   cells-nearly [] vs s g l o c = g
@@ -144,7 +143,7 @@ module _ (n : EntityId) (ty : ℕ) where
       option-cases (attribute_of s.schema ty x.name) (λ b. IsNearlyLegal (cells_set ty n cs vs (cell_set b n v s)))
       (λ _. cells-nearly cs vs s g l o c.1)
       (λ a f. cells-nearly cs vs (attribute_set s a.number n v)
-      (set-nearly s a.number n v a (found s.schema g.plain ty x.name a f).number g l (owns s g o x.name a f) (c.0 a f).held (alone-found s a v (c.0 a f)))
+      (set-nearly s a.number n v a (found s.schema g.consistent ty x.name a f).number g l (owns s g o x.name a f) (c.0 a f).held (alone-found s a v (c.0 a f)))
       l o (can-all-step s a.number v cs vs c.1))
 
   -- whether each attribute that admits no null gets a value
@@ -165,7 +164,7 @@ module _ (n : EntityId) (ty : ℕ) where
       option-cases (attribute_of s.schema ty x.name) (λ b. IsLegal (cells_set ty n cs vs (cell_set b n v s)))
       (λ _. cells-legal cs vs s g l o c.1 d.1)
       (λ a f. cells-legal cs vs (attribute_set s a.number n v)
-      (set-legal s a.number n v a (found s.schema g.nearly.plain ty x.name a f).number g l (owns s g.nearly o x.name a f) (c.0 a f).held (alone-found s a v (c.0 a f)) (d.0 a f))
+      (set-legal s a.number n v a (found s.schema g.nearly.consistent ty x.name a f).number g l (owns s g.nearly o x.name a f) (c.0 a f).held (alone-found s a v (c.0 a f)) (d.0 a f))
       l o (can-all-step s a.number v cs vs c.1) d.1)
 
   -- cells change triples alone
@@ -190,7 +189,7 @@ module _ (n : EntityId) (ty : ℕ) where
       none false b h = refl
 
   -- an attribute that no further cell names keeps its value
-  cells-keep : (b : Attribute) (cs : List Cell) (vs : List Value) (s : State) → IsPlain s.schema → Member b s.schema.attributes → list_all (λ c. not (bytes_eq c.name b.name)) cs ≡ true
+  cells-keep : (b : Attribute) (cs : List Cell) (vs : List Value) (s : State) → IsConsistent s.schema → Member b s.schema.attributes → list_all (λ c. not (bytes_eq c.name b.name)) cs ≡ true
       → list_any (is_at b.number n) s.triples ≡ true → list_any (is_at b.number n) (cells_set ty n cs vs s).triples ≡ true
   cells-keep b [] vs s g m o h = h
   cells-keep b (c ∷ cs) [] s g m o h = h
@@ -210,7 +209,7 @@ module _ (n : EntityId) (ty : ℕ) where
           true≢false (sym (name-itself b.name) ∙ ap (λ z. bytes_eq z b.name) (one ∙ two) ∙ not-true (bytes_eq c.name b.name) (left (not (bytes_eq c.name b.name)) (list_all (λ d. not (bytes_eq d.name b.name)) cs) o)))
 
   -- an attribute with a cell whose value isn't null has a value afterwards
-  pub cells-own : (b : Attribute) (val : Cell → Value) (x : Cell) (cs : List Cell) (s : State) → IsPlain s.schema → Member b (attributes_in s.schema ty)
+  pub cells-own : (b : Attribute) (val : Cell → Value) (x : Cell) (cs : List Cell) (s : State) → IsConsistent s.schema → Member b (attributes_in s.schema ty)
       → each_pair (λ c d. not (bytes_eq d.name c.name)) cs ≡ true → cell_of cs b ≡ Some x → null (val x) ≡ false → list_any (is_at b.number n) (cells_set ty n cs (map val cs) s).triples ≡ true
   cells-own b val x [] s g m e f h = absurd (nothing f)
     where

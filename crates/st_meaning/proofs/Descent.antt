@@ -3,10 +3,9 @@ use Rattle.std.proofs.Common.{◌≡◌, ℕ, zero, suc, ◌<◌, ◌≤◌, Boo
 use Rattle.std.specs.Prelude.{◌==◌, slice_index_or}
 use Rattle.std.specs.List.{list_any}
 use Rattle.std.proofs.lemmas.List.Elements.{All-head, All-tail}
-use Rattle.st_values.proofs.Placing.{either}
+use Rattle.st_values.proofs.Tests.{one-of, first-of, other-of, either}
 use Rattle.st_lattice.specs.Outline.{Outline, IsOrderly}
 use Rattle.st_lattice.specs.Lattice.{isa_within, isa}
-use Rattle.st_state.proofs.Tests.{one-of, first-of, other-of}
 use Rattle.st_state.proofs.Changed.{number-is}
 
 any-weaken : (f g : ℕ → Bool) → ((p : ℕ) → f p ≡ true → g p ≡ true) → (xs : List ℕ) → list_any f xs ≡ true → list_any g xs ≡ true

@@ -7,28 +7,35 @@ use Rattle.st_values.specs.declared.value.Kind.{Kind}
 use Rattle.st_values.specs.declared.value.Kind.TheVariants as kind
 use Rattle.st_values.specs.declared.value.Value.{Value}
 use Rattle.st_values.specs.declared.value.Value.TheVariants as value
-use Rattle.st_values.proofs.Placing.{both, either}
+use Rattle.st_values.specs.Order.{same_entity}
+use Rattle.st_values.proofs.Tests.{not-true, one-of, first-of, other-of, both, either}
+use Rattle.st_values.proofs.Tests as tests
 use Rattle.st_lattice.specs.declared.attribute.Attribute.{Attribute}
-use Rattle.st_lattice.specs.Outline.{Outline}
-use Rattle.st_lattice.specs.Lattice.{isa}
+use Rattle.st_lattice.specs.declared.called.Called.{Called}
+use Rattle.st_lattice.specs.declared.called.Called.TheVariants.{Nothing, Own, Inverse}
+use Rattle.st_lattice.specs.Outline.{Outline, attribute_name}
+use Rattle.st_lattice.specs.Lattice.{isa, by_number}
+use Rattle.st_lattice.specs.Called.{called}
 use Rattle.st_query.specs.declared.statement.Statement.{Statement}
 use Rattle.st_query.specs.declared.statement.Statement.TheVariants.{Set as SetTo, Add, Take, Delete}
 use Rattle.st_query.specs.declared.term.Term.{Term}
+use Rattle.st_query.specs.declared.kind.Expected.TheVariants.{Storable}
+use Rattle.st_query.specs.declared.kind.Sort.TheVariants as sort
 use Rattle.st_query.specs.Ways.{way}
+use Rattle.st_query.specs.Kinds.{kind_sort, value_sort, store_well, Known, known}
 use Rattle.st_state.specs.declared.refusal.Refusal.TheVariants.{NoSuchEntity, NullNotAllowed, NotUnique, TextTooLong, NotASet}
-use Rattle.st_state.specs.State.{State, is_live, same_entity, turned}
+use Rattle.st_state.specs.State.{State, is_live, turned}
 use Rattle.st_state.specs.Legal.{can_hold, IsLegal}
-use Rattle.st_state.proofs.Tests.{not-true, one-of, first-of, other-of}
-use Rattle.st_state.proofs.Tests as tests
+use Rattle.st_state.specs.Refusals.{first_of}
+use Rattle.st_state.specs.Bases.{shared_with, is_other, needed, needed_by}
 use Rattle.st_state.proofs.Kept.{unneeded, deleted-legal}
 use Rattle.st_state.proofs.Changed.{added-legal, taken-legal}
 use Rattle.st_state.proofs.Set.{null, set-legal}
-use Rattle.st_meaning.specs.Terms.{Called, Nothing, Own, Inverse, called, start_value}
+use Rattle.st_meaning.specs.Terms.{start_value}
 use Rattle.st_meaning.specs.Selection.{is_null}
 use Rattle.st_meaning.specs.Statements.{Present, value_now, does, sets, adds, takes, deletes}
-use Rattle.st_meaning.specs.Kinds.{first_of, EntitySort, Storable, kind_sort, value_sort, store_well, Known, known, term_refused}
-use Rattle.st_meaning.specs.Checks.{wrong_unless, set_refused, member_refused}
-use Rattle.st_meaning.specs.Rules.{rules_1_2_7, rule_10, rule_5, rule_11, rule_8, rule_3, rule_4, rule_6, rule_9, refusal, dead, Filling, set_fillings, member_fillings, too_long, missing, shared, shared_with, is_other, entity_in, attribute_name, by_number, needed, needed_by, still_needed}
+use Rattle.st_meaning.specs.Checks.{wrong_unless, set_refused, member_refused, term_refused}
+use Rattle.st_meaning.specs.Rules.{rules_1_2_7, rule_10, rule_5, rule_11, rule_8, rule_3, rule_4, rule_6, rule_9, refusal, dead, Filling, set_fillings, member_fillings, too_long, missing, shared, entity_in, needed_value}
 use Rattle.st_meaning.proofs.Sorts.{first-none, others-none, when-none, unless-none, LiveValue, called-own, term-live, term-sort}
 
 -- ---- what no rule refuses
@@ -131,8 +138,8 @@ module _ (p : Present) (g : IsLegal p.state) where
   of_sort term k h = term-sort s g.nearly p.variables (kind_sort k) term h
 
   -- an entity of a type that was checked
-  of_type : (term : Term) (ty : ℕ) (e : EntityId) → term_refused s.schema names (Storable (EntitySort ty)) term ≡ None → value_now p term ≡ value.Entity e → isa s.schema e.ty ty ≡ true
-  of_type term ty e h k = subst (λ v. store_well s.schema (EntitySort ty) (value_sort v) ≡ true) k (term-sort s g.nearly p.variables (EntitySort ty) term h)
+  of_type : (term : Term) (ty : ℕ) (e : EntityId) → term_refused s.schema names (Storable (sort.Entity ty)) term ≡ None → value_now p term ≡ value.Entity e → isa s.schema e.ty ty ≡ true
+  of_type term ty e h k = subst (λ v. store_well s.schema (sort.Entity ty) (value_sort v) ≡ true) k (term-sort s g.nearly p.variables (sort.Entity ty) term h)
 
   -- two terms of a statement are live
   first-live : (target written : Term) → first_of (map (λ start. dead s (start_value s p.variables start)) ((way target).start ∷ (way written).start ∷ [])) ≡ None → LiveValue s (value_now p target)
@@ -146,7 +153,7 @@ module _ (p : Present) (g : IsLegal p.state) where
 
   -- ---- set
 
-  set-by : (feature : List ℕ) (target written : Term) (c : Called) → called s.schema feature ≡ c
+  set-by : (feature : List ℕ) (target written : Term) (c : Called Attribute) → called s.schema feature ≡ c
       → set_refused s.schema names feature target written c ≡ None
       → first_of (map (λ start. dead s (start_value s p.variables start)) ((way target).start ∷ (way written).start ∷ [])) ≡ None
       → first_of (map (λ f. too_long f.attribute.kind f.value) (set_fillings (value_now p written) c)) ≡ None
@@ -169,8 +176,8 @@ module _ (p : Present) (g : IsLegal p.state) where
   set-by feature target written (Own a) e text live long null_ shared_ (value.Text _) k = g
   set-by feature target written (Own a) e text live long null_ shared_ (value.Entity x) k =
       let after = others-none (wrong_unless (not a.many)) _ text in
-      let target_fits = first-none (term_refused s.schema names (Storable (EntitySort a.owner)) target) _ after in
-      let value_fits = first-none (term_refused s.schema names (Storable (kind_sort a.kind)) written) [] (others-none (term_refused s.schema names (Storable (EntitySort a.owner)) target) _ after) in
+      let target_fits = first-none (term_refused s.schema names (Storable (sort.Entity a.owner)) target) _ after in
+      let value_fits = first-none (term_refused s.schema names (Storable (kind_sort a.kind)) written) [] (others-none (term_refused s.schema names (Storable (sort.Entity a.owner)) target) _ after) in
       let v = value_now p written in
       let f : Filling = record { attribute = a; value = v; wanted = a.no_nulls } in
       let alone = subst (λ w. first_of (map (shared s (entity_in w)) (set_fillings v (Own a))) ≡ None) k shared_ in
@@ -188,7 +195,7 @@ module _ (p : Present) (g : IsLegal p.state) where
   is-set : (feature : List ℕ) (a : Attribute) → (if a.many then None else Some (NotASet feature)) ≡ None → a.many ≡ true
   is-set feature a h = when-none a.many (NotASet feature) h
 
-  add-by : (feature : List ℕ) (target written : Term) (c : Called) → called s.schema feature ≡ c
+  add-by : (feature : List ℕ) (target written : Term) (c : Called Attribute) → called s.schema feature ≡ c
       → member_refused s.schema names feature target written c ≡ None
       → first_of (map (λ start. dead s (start_value s p.variables start)) ((way target).start ∷ (way written).start ∷ [])) ≡ None
       → first_of (map (λ f. too_long f.attribute.kind f.value) (member_fillings (value_now p written) c)) ≡ None
@@ -212,8 +219,8 @@ module _ (p : Present) (g : IsLegal p.state) where
   add-by feature target written (Own a) e text live long null_ shared_ (value.Entity x) k =
       let many = is-set feature a (first-none (if a.many then None else Some (NotASet feature)) _ text) in
       let after = others-none (if a.many then None else Some (NotASet feature)) _ text in
-      let target_fits = first-none (term_refused s.schema names (Storable (EntitySort a.owner)) target) _ after in
-      let value_fits = first-none (term_refused s.schema names (Storable (kind_sort a.kind)) written) [] (others-none (term_refused s.schema names (Storable (EntitySort a.owner)) target) _ after) in
+      let target_fits = first-none (term_refused s.schema names (Storable (sort.Entity a.owner)) target) _ after in
+      let value_fits = first-none (term_refused s.schema names (Storable (kind_sort a.kind)) written) [] (others-none (term_refused s.schema names (Storable (sort.Entity a.owner)) target) _ after) in
       let v = value_now p written in
       let f : Filling = record { attribute = a; value = v; wanted = true } in
       added-legal s a.number x v a (called-own s.schema feature a e) many g (first-live target written live x k) (of_type target a.owner x target_fits k)
@@ -224,7 +231,7 @@ module _ (p : Present) (g : IsLegal p.state) where
   add-kept feature target written h =
       add-by feature target written (called s.schema feature) refl h.text h.live h.long h.null h.shared (value_now p target) refl
 
-  take-by : (feature : List ℕ) (target written : Term) (c : Called) → called s.schema feature ≡ c
+  take-by : (feature : List ℕ) (target written : Term) (c : Called Attribute) → called s.schema feature ≡ c
       → member_refused s.schema names feature target written c ≡ None → (v : Value) → IsLegal (takes s c v (value_now p written))
   take-by feature target written Nothing e text value.Null = g
   take-by feature target written Nothing e text (value.Int _) = g
@@ -263,7 +270,7 @@ module _ (p : Present) (g : IsLegal p.state) where
   all-unneeded e (a ∷ xs) h =
       both (unneeded s e a) (list_all (unneeded s e) xs) (none-needed e a (first-none (needed s e a) _ h)) (all-unneeded e xs (others-none (needed s e a) _ h))
 
-  delete-by : (v : Value) → still_needed s v ≡ None → IsLegal (deletes s v)
+  delete-by : (v : Value) → needed_value s v ≡ None → IsLegal (deletes s v)
   delete-by value.Null h = g
   delete-by (value.Int _) h = g
   delete-by (value.Bool _) h = g

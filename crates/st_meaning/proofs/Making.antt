@@ -5,20 +5,24 @@ use Rattle.std.specs.List.{list_all, list_any, position_or_len, cons_option}
 use Rattle.std.specs.Str.{bytes_eq}
 use Rattle.st_values.specs.declared.value.EntityId.{EntityId}
 use Rattle.st_values.specs.declared.value.Value.{Value}
-use Rattle.st_values.specs.Order.{same_value}
+use Rattle.st_values.specs.Order.{same_value, same_entity, entity_before}
 use Rattle.st_values.specs.Arranged.{each_pair}
-use Rattle.st_values.proofs.Placing.{both, left, right, either, all-weaken, all-placed, differ}
+use Rattle.st_values.proofs.Placing.{differ}
+use Rattle.st_values.proofs.Entities.{same_entity-is, same_value-is, same_value-itself, entity_before-strict}
+use Rattle.st_values.proofs.Tests.{one-of, first-of, never, all-two, none-found, both, left, right, either, all-weaken, all-placed}
 use Rattle.st_lattice.specs.declared.attribute.Attribute.{Attribute}
 use Rattle.st_lattice.specs.Outline.{Outline, type_named}
 use Rattle.st_lattice.specs.Lattice.{isa_within, isa, attributes_in, attribute_of}
 use Rattle.st_query.specs.declared.statement.Cell.{Cell}
 use Rattle.st_query.specs.Ways.{way}
+use Rattle.st_query.specs.Written.{have_own_names}
+use Rattle.st_query.specs.Kinds.{kind_sort, value_sort, store_well, known, expected_in}
 use Rattle.st_state.specs.declared.refusal.Refusal.{Refusal}
 use Rattle.st_state.specs.declared.triple.Triple.{Triple}
-use Rattle.st_state.specs.State.{State, same_entity, entity_before, is_live, is_at, next_entity, entity_made}
+use Rattle.st_state.specs.State.{State, is_live, is_at, next_entity, entity_made}
 use Rattle.st_state.specs.Legal.{is_counted, is_filled, IsNearlyLegal, IsLegal}
-use Rattle.st_state.proofs.Orders.{same_entity-is, same_value-is, same_value-itself, entity_before-strict}
-use Rattle.st_state.proofs.Tests.{one-of, first-of, never, all-two, none-found}
+use Rattle.st_state.specs.Refusals.{first_of}
+use Rattle.st_state.specs.Bases.{is_other}
 use Rattle.st_state.proofs.Changed.{number-itself}
 use Rattle.st_state.proofs.Kept.{can_hold-moved}
 use Rattle.st_state.proofs.Set.{null}
@@ -26,9 +30,8 @@ use Rattle.st_state.proofs.Made.{made-nearly, live-still, fresh-live, unlike}
 use Rattle.st_state.proofs.Members.{Member, all-members}
 use Rattle.st_meaning.specs.Terms.{start_value}
 use Rattle.st_meaning.specs.Statements.{Present, value_now, cell_values, cells_set}
-use Rattle.st_meaning.specs.Kinds.{first_of, kind_sort, value_sort, store_well, known, term_refused}
-use Rattle.st_meaning.specs.Checks.{place_in}
-use Rattle.st_meaning.specs.Rules.{dead, Filling, cell_of, given, new_fillings, cell_filling, cell_fillings, too_long, missing, shared, is_other}
+use Rattle.st_meaning.specs.Checks.{term_refused}
+use Rattle.st_meaning.specs.Rules.{dead, Filling, cell_of, given, new_fillings, cell_filling, cell_fillings, too_long, missing, shared}
 use Rattle.st_meaning.proofs.Sorts.{first-none, others-none, LiveValue, term-live, term-sort}
 use Rattle.st_meaning.proofs.Legality.{dead-none, storable, given-value, not-shared}
 use Rattle.st_meaning.proofs.Cells.{name-is, option-cases, named-found, found, CanSet, can-all, given-all, cells-nearly, cells-legal, cells-shape, cells-others, cells-own}
@@ -49,6 +52,16 @@ each-none f (x ∷ xs) h = both (is_none (f x)) (list_all (λ y. is_none (f y)) 
 pub all-map : {X Y : Type 0} (f : X → Y) (q : Y → Bool) (xs : List X) → list_all q (map f xs) ≡ true → list_all (λ x. q (f x)) xs ≡ true
 all-map f q [] h = refl
 all-map f q (x ∷ xs) h = both (q (f x)) (list_all (λ y. q (f y)) xs) (left (q (f x)) (list_all q (map f xs)) h) (all-map f q xs (right (q (f x)) (list_all q (map f xs)) h))
+
+pairs-unmap : {X Y : Type 0} (r : Y → Y → Bool) (f : X → Y) (xs : List X) → each_pair r (map f xs) ≡ true → each_pair (λ x y. r (f x) (f y)) xs ≡ true
+pairs-unmap r f [] h = refl
+pairs-unmap r f (x ∷ xs) h =
+    both (list_all (λ y. r (f x) (f y)) xs) (each_pair (λ y z. r (f y) (f z)) xs) (all-map f (r (f x)) xs (left (list_all (r (f x)) (map f xs)) (each_pair r (map f xs)) h))
+    (pairs-unmap r f xs (right (list_all (r (f x)) (map f xs)) (each_pair r (map f xs)) h))
+
+-- cells whose names differ, pair by pair
+pub own-names : (cells : List Cell) → have_own_names cells ≡ true → each_pair (λ a b. not (bytes_eq b.name a.name)) cells ≡ true
+own-names cells h = pairs-unmap (λ a b. not (bytes_eq b a)) (λ (cell : Cell). cell.name) cells h
 
 -- what is kept passes, if it is there
 abbrev if_there : {Y : Type 0} → (Y → Bool) → Option Y → Bool
@@ -89,7 +102,7 @@ module _ (p : Present) (g : IsLegal p.state) (t : ℕ) where
 
   -- whether each cell's value was checked for its attribute's place, and is live
   abbrev Checked : List Cell → Type 0
-  Checked cells = list_all (λ c. is_none (term_refused s.schema (known p.variables) (place_in (attribute_of s.schema t c.name)) c.value)) cells ≡ true
+  Checked cells = list_all (λ c. is_none (term_refused s.schema (known p.variables) (expected_in (attribute_of s.schema t c.name)) c.value)) cells ≡ true
 
   abbrev Lives : List Cell → Type 0
   Lives cells = list_all (λ c. is_none (dead s (start_value s p.variables (way c.value).start))) cells ≡ true
@@ -101,8 +114,8 @@ module _ (p : Present) (g : IsLegal p.state) (t : ℕ) where
       → store_well s.schema (kind_sort a.kind) (value_sort (value_now p c.value)) ≡ true
   cell-sort cells h c m a f =
       term-sort s g.nearly p.variables (kind_sort a.kind) c.value
-      (subst (λ o. term_refused s.schema (known p.variables) (place_in o) c.value ≡ None) f
-      (none-is _ (m (λ c. is_none (term_refused s.schema (known p.variables) (place_in (attribute_of s.schema t c.name)) c.value)) h)))
+      (subst (λ o. term_refused s.schema (known p.variables) (expected_in o) c.value ≡ None) f
+      (none-is _ (m (λ c. is_none (term_refused s.schema (known p.variables) (expected_in (attribute_of s.schema t c.name)) c.value)) h)))
 
   cell-live : (cells : List Cell) → Lives cells → (c : Cell) → Member c cells → LiveValue s (value_now p c.value)
   cell-live cells h c m =
@@ -154,7 +167,7 @@ module _ (p : Present) (g : IsLegal p.state) (t : ℕ) where
 
     can-set : (c : Cell) → Member c cells → (a : Attribute) → attribute_of s.schema t c.name ≡ Some a → CanSet fresh t made a (value_now p c.value)
     can-set c m a f =
-        let at = found s.schema g.nearly.plain t c.name a f in
+        let at = found s.schema g.nearly.consistent t c.name a f in
         let same : given p (cell_of cells a) ≡ value_now p c.value = given-same c (cell_of cells a) (cell-same cells distinct c m a at.named) in
         record {
           held = λ n. can_hold-moved s made.live made.triples made.last a.kind (value_now p c.value) (λ x _. live-still s t g.nearly there x)
@@ -194,7 +207,7 @@ module _ (p : Present) (g : IsLegal p.state) (t : ℕ) where
         let some = given-value s.schema (filling b) (passes-filling (missing s.schema) nulls b m) (first-of b.no_nulls (is_key b) k) in
         option-cases (cell_of cells b) (λ o. cell_of cells b ≡ o → null (given p o) ≡ false → list_any (is_at b.number fresh) after.triples ≡ true)
         (λ _ _ n. absurd (true≢false n))
-        (λ x _ f n. cells-own fresh t b (λ c. value_now p c.value) x cells made g.nearly.plain m distinct f n) refl some)
+        (λ x _ f n. cells-own fresh t b (λ c. value_now p c.value) x cells made g.nearly.consistent m distinct f n) refl some)
         (λ _ _. refl) refl)
 
     pub made-legal : IsLegal after
@@ -213,7 +226,7 @@ module _ (p : Present) (g : IsLegal p.state) (t : ℕ) where
     passes-cell : (f : Filling → Option Refusal) → first_of (map f (cell_fillings p t cells)) ≡ None → (c : Cell) → Member c cells → (a : Attribute) → attribute_of s.schema t c.name ≡ Some a
         → f (record { attribute = a; value = value_now p c.value; wanted = a.no_nulls }) ≡ None
     passes-cell f h c m a k =
-        let at = found s.schema g.nearly.plain t c.name a k in
+        let at = found s.schema g.nearly.consistent t c.name a k in
         by (cell_of cells a) (cell-same cells distinct c m a at.named)
         (at.member (λ b. if_there (λ x. is_none (f x)) (cell_filling p b (cell_of cells b)))
         (all-kept-there (λ b. cell_filling p b (cell_of cells b)) (λ x. is_none (f x)) (attributes_in s.schema t) (each-none f (cell_fillings p t cells) h)))

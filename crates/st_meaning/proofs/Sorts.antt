@@ -8,26 +8,39 @@ use Rattle.st_values.specs.declared.value.Kind.{Kind}
 use Rattle.st_values.specs.declared.value.Kind.TheVariants as kind
 use Rattle.st_values.specs.declared.value.Value.{Value}
 use Rattle.st_values.specs.declared.value.Value.TheVariants as value
-use Rattle.st_values.proofs.Placing.{left, right, either}
+use Rattle.st_values.specs.Order.{same_entity}
+use Rattle.st_values.proofs.Tests.{left, right, either}
 use Rattle.st_lattice.specs.declared.attribute.Attribute.{Attribute}
 use Rattle.st_lattice.specs.declared.feature.Feature.{Feature}
 use Rattle.st_lattice.specs.declared.feature.Feature.TheVariants as feature
+use Rattle.st_lattice.specs.declared.called.Called.{Called}
+use Rattle.st_lattice.specs.declared.called.Called.TheVariants.{Nothing, Own, Inverse}
 use Rattle.st_lattice.specs.Features.{lookup}
 use Rattle.st_lattice.specs.Outline.{Outline, type_named, attribute}
 use Rattle.st_lattice.specs.Lattice.{isa}
 use Rattle.st_lattice.specs.Stores.{passes}
+use Rattle.st_lattice.specs.Called.{own, inverse, called_by, called}
 use Rattle.st_query.specs.declared.term.Literal.TheVariants as literal
 use Rattle.st_query.specs.declared.term.Term.{Term}
 use Rattle.st_query.specs.declared.term.Variable.{Variable}
+use Rattle.st_query.specs.declared.kind.Expected.{Expected}
+use Rattle.st_query.specs.declared.kind.Expected.TheVariants.{Storable}
+use Rattle.st_query.specs.declared.kind.Typing.{Typing}
+use Rattle.st_query.specs.declared.kind.Typing.TheVariants.{One, Many}
+use Rattle.st_query.specs.declared.kind.Sort.{Sort}
+use Rattle.st_query.specs.declared.kind.Sort.TheVariants as sort
 use Rattle.st_query.specs.Ways.{Start, Written, Named, way}
+use Rattle.st_query.specs.Terms.{entity_value, variable_named, bound_to}
+use Rattle.st_query.specs.Kinds.{value_sort, kind_sort, known, fits, store_well, start_typing, start_name, entity_typing, variable_typing, feature_typing, attribute_typing}
 use Rattle.st_state.specs.declared.refusal.Refusal.{Refusal}
 use Rattle.st_state.specs.declared.refusal.Refusal.TheVariants.{WrongType}
 use Rattle.st_state.specs.declared.triple.Triple.{Triple}
-use Rattle.st_state.specs.State.{State, is_live, same_entity, is_at, value_at, value_in, values_at}
+use Rattle.st_state.specs.State.{State, is_live, is_at, value_at, value_in, values_at}
 use Rattle.st_state.specs.Legal.{can_hold, is_sound, IsNearlyLegal}
+use Rattle.st_state.specs.Refusals.{first_of}
 use Rattle.st_state.proofs.Changed.{number-is}
-use Rattle.st_meaning.specs.Terms.{Single, Set, single, Called, Nothing, Own, Inverse, own, inverse, called_by, called, attribute_value, inverse_value, feature_value, features_value, start_value, entity_value, variable_named, bound_to, term_meaning, term_value}
-use Rattle.st_meaning.specs.Kinds.{first_of, Sort, NullSort, IntSort, BoolSort, TextSort, EntitySort, value_sort, kind_sort, Shape, One, Many, Place, Storable, known, Unknown, Shaped, fits, store_well, start_head, entity_head, variable_head, feature_head, attribute_shape, fit_or_refused, way_refused, term_refused}
+use Rattle.st_meaning.specs.Terms.{Single, Set, single, attribute_value, inverse_value, feature_value, features_value, start_value, term_meaning, term_value}
+use Rattle.st_meaning.specs.Checks.{fit_or_refused, way_refused, term_refused}
 use Rattle.st_meaning.proofs.Descent.{isa-chain}
 
 -- ---- refusals
@@ -56,45 +69,45 @@ unless-none false r e = refl
 
 -- what fits what fits a sort fits the sort
 pub store-chain : (schema : Outline) → ((t u w : ℕ) → isa schema t u ≡ true → isa schema u w ≡ true → isa schema t w ≡ true)
-    → (a b c : Sort) → (b ≡ NullSort → ⊥) → store_well schema a b ≡ true → store_well schema b c ≡ true → store_well schema a c ≡ true
-store-chain schema t a NullSort c n h k = absurd (n refl)
-store-chain schema t NullSort IntSort c n h k = absurd (true≢false (sym h))
-store-chain schema t NullSort BoolSort c n h k = absurd (true≢false (sym h))
-store-chain schema t NullSort TextSort c n h k = absurd (true≢false (sym h))
-store-chain schema t NullSort (EntitySort u) c n h k = absurd (true≢false (sym h))
-store-chain schema t IntSort IntSort c n h k = k
-store-chain schema t IntSort BoolSort c n h k = absurd (true≢false (sym h))
-store-chain schema t IntSort TextSort c n h k = absurd (true≢false (sym h))
-store-chain schema t IntSort (EntitySort u) c n h k = absurd (true≢false (sym h))
-store-chain schema t BoolSort IntSort c n h k = absurd (true≢false (sym h))
-store-chain schema t BoolSort BoolSort c n h k = k
-store-chain schema t BoolSort TextSort c n h k = absurd (true≢false (sym h))
-store-chain schema t BoolSort (EntitySort u) c n h k = absurd (true≢false (sym h))
-store-chain schema t TextSort IntSort c n h k = absurd (true≢false (sym h))
-store-chain schema t TextSort BoolSort c n h k = absurd (true≢false (sym h))
-store-chain schema t TextSort TextSort c n h k = k
-store-chain schema t TextSort (EntitySort u) c n h k = absurd (true≢false (sym h))
-store-chain schema t (EntitySort w) IntSort c n h k = absurd (true≢false (sym h))
-store-chain schema t (EntitySort w) BoolSort c n h k = absurd (true≢false (sym h))
-store-chain schema t (EntitySort w) TextSort c n h k = absurd (true≢false (sym h))
-store-chain schema t (EntitySort w) (EntitySort u) (EntitySort z) n h k = t z u w k h
-store-chain schema t (EntitySort w) (EntitySort u) NullSort n h k = refl
-store-chain schema t (EntitySort w) (EntitySort u) IntSort n h k = absurd (true≢false (sym k))
-store-chain schema t (EntitySort w) (EntitySort u) BoolSort n h k = absurd (true≢false (sym k))
-store-chain schema t (EntitySort w) (EntitySort u) TextSort n h k = absurd (true≢false (sym k))
+    → (a b c : Sort) → (b ≡ sort.Null → ⊥) → store_well schema a b ≡ true → store_well schema b c ≡ true → store_well schema a c ≡ true
+store-chain schema t a sort.Null c n h k = absurd (n refl)
+store-chain schema t sort.Null sort.Int c n h k = absurd (true≢false (sym h))
+store-chain schema t sort.Null sort.Bool c n h k = absurd (true≢false (sym h))
+store-chain schema t sort.Null sort.Text c n h k = absurd (true≢false (sym h))
+store-chain schema t sort.Null (sort.Entity u) c n h k = absurd (true≢false (sym h))
+store-chain schema t sort.Int sort.Int c n h k = k
+store-chain schema t sort.Int sort.Bool c n h k = absurd (true≢false (sym h))
+store-chain schema t sort.Int sort.Text c n h k = absurd (true≢false (sym h))
+store-chain schema t sort.Int (sort.Entity u) c n h k = absurd (true≢false (sym h))
+store-chain schema t sort.Bool sort.Int c n h k = absurd (true≢false (sym h))
+store-chain schema t sort.Bool sort.Bool c n h k = k
+store-chain schema t sort.Bool sort.Text c n h k = absurd (true≢false (sym h))
+store-chain schema t sort.Bool (sort.Entity u) c n h k = absurd (true≢false (sym h))
+store-chain schema t sort.Text sort.Int c n h k = absurd (true≢false (sym h))
+store-chain schema t sort.Text sort.Bool c n h k = absurd (true≢false (sym h))
+store-chain schema t sort.Text sort.Text c n h k = k
+store-chain schema t sort.Text (sort.Entity u) c n h k = absurd (true≢false (sym h))
+store-chain schema t (sort.Entity w) sort.Int c n h k = absurd (true≢false (sym h))
+store-chain schema t (sort.Entity w) sort.Bool c n h k = absurd (true≢false (sym h))
+store-chain schema t (sort.Entity w) sort.Text c n h k = absurd (true≢false (sym h))
+store-chain schema t (sort.Entity w) (sort.Entity u) (sort.Entity z) n h k = t z u w k h
+store-chain schema t (sort.Entity w) (sort.Entity u) sort.Null n h k = refl
+store-chain schema t (sort.Entity w) (sort.Entity u) sort.Int n h k = absurd (true≢false (sym k))
+store-chain schema t (sort.Entity w) (sort.Entity u) sort.Bool n h k = absurd (true≢false (sym k))
+store-chain schema t (sort.Entity w) (sort.Entity u) sort.Text n h k = absurd (true≢false (sym k))
 
-kind_sort-some : (k : Kind) → kind_sort k ≡ NullSort → ⊥
+kind_sort-some : (k : Kind) → kind_sort k ≡ sort.Null → ⊥
 kind_sort-some kind.Int e = cc
 kind_sort-some kind.Bool e = cc
 kind_sort-some (kind.Text limit) e = cc
 kind_sort-some (kind.Entity ty) e = cc
 
-null-stores : (schema : Outline) (a : Sort) → store_well schema a NullSort ≡ true
-null-stores schema NullSort = refl
-null-stores schema IntSort = refl
-null-stores schema BoolSort = refl
-null-stores schema TextSort = refl
-null-stores schema (EntitySort ty) = refl
+null-stores : (schema : Outline) (a : Sort) → store_well schema a sort.Null ≡ true
+null-stores schema sort.Null = refl
+null-stores schema sort.Int = refl
+null-stores schema sort.Bool = refl
+null-stores schema sort.Text = refl
+null-stores schema (sort.Entity ty) = refl
 
 -- ---- values that are stored
 
@@ -219,7 +232,7 @@ module _ (s : State) (n : IsNearlyLegal s) (variables : List Variable) where
   feature-live : (name : List ℕ) (v : Value) → LiveValue s (single (feature_value s (called s.schema name) v))
   feature-live name v = by (called s.schema name) refl
     where
-      by : (c : Called) → called s.schema name ≡ c → LiveValue s (single (feature_value s c v))
+      by : (c : Called Attribute) → called s.schema name ≡ c → LiveValue s (single (feature_value s c v))
       by Nothing h = null-live
       by (Own a) h = attribute-gives s n a v (called-own s.schema name a h) (LiveValue s) null-live (λ w k. held-live s n a.kind w k)
       by (Inverse a) h = subst (LiveValue s) (sym (inverse-gives s n a v)) null-live
@@ -232,52 +245,52 @@ module _ (s : State) (n : IsNearlyLegal s) (variables : List Variable) where
   unfolding term_meaning
   term-live term h = features-live (way term).features (start_value s variables (way term).start) h
 
-  chain : (a b c : Sort) → (b ≡ NullSort → ⊥) → store_well s.schema a b ≡ true → store_well s.schema b c ≡ true → store_well s.schema a c ≡ true
+  chain : (a b c : Sort) → (b ≡ sort.Null → ⊥) → store_well s.schema a b ≡ true → store_well s.schema b c ≡ true → store_well s.schema a c ≡ true
   chain = store-chain s.schema (isa-chain s.schema n.orderly)
 
-  fit-none : (place : Place) (shape : Shape) → fit_or_refused s.schema place (Shaped shape) ≡ None → fits s.schema place shape ≡ true
-  fit-none place shape h = when-none (fits s.schema place shape) WrongType h
+  fit-none : (expected : Expected) (name : List ℕ) (typing : Typing) → fit_or_refused s.schema expected name (Some typing) ≡ None → fits s.schema expected typing ≡ true
+  fit-none expected name typing h = when-none (fits s.schema expected typing) WrongType h
 
-  unknown-none : (place : Place) (name : List ℕ) → fit_or_refused s.schema place (Unknown name) ≡ None → ⊥
-  unknown-none place name h = cc
+  unknown-none : (expected : Expected) (name : List ℕ) → fit_or_refused s.schema expected name None ≡ None → ⊥
+  unknown-none expected name h = cc
 
   -- what a term begins with is of the sort that was checked
-  start-sort : (b : Sort) (start : Start) → fit_or_refused s.schema (Storable b) (start_head s.schema (known variables) start) ≡ None → store_well s.schema b (value_sort (start_value s variables start)) ≡ true
+  start-sort : (b : Sort) (start : Start) → fit_or_refused s.schema (Storable b) (start_name start) (start_typing s.schema (known variables) start) ≡ None → store_well s.schema b (value_sort (start_value s variables start)) ≡ true
   start-sort b (Written (literal.Entity ty serial)) h = by (type_named s.schema ty) h
     where
-      by : (o : Option ℕ) → fit_or_refused s.schema (Storable b) (entity_head ty o) ≡ None → store_well s.schema b (value_sort (entity_value o serial)) ≡ true
+      by : (o : Option ℕ) → fit_or_refused s.schema (Storable b) ty (entity_typing o) ≡ None → store_well s.schema b (value_sort (entity_value o serial)) ≡ true
       by None k = absurd (unknown-none (Storable b) ty k)
-      by (Some t) k = fit-none (Storable b) (One (EntitySort t)) k
-  start-sort b (Written literal.Null) h = fit-none (Storable b) (One NullSort) h
-  start-sort b (Written (literal.Int i)) h = fit-none (Storable b) (One IntSort) h
-  start-sort b (Written (literal.Bool i)) h = fit-none (Storable b) (One BoolSort) h
-  start-sort b (Written (literal.Text i)) h = fit-none (Storable b) (One TextSort) h
+      by (Some t) k = fit-none (Storable b) ty (One (sort.Entity t)) k
+  start-sort b (Written literal.Null) h = fit-none (Storable b) [] (One sort.Null) h
+  start-sort b (Written (literal.Int i)) h = fit-none (Storable b) [] (One sort.Int) h
+  start-sort b (Written (literal.Bool i)) h = fit-none (Storable b) [] (One sort.Bool) h
+  start-sort b (Written (literal.Text i)) h = fit-none (Storable b) [] (One sort.Text) h
   start-sort b (Named name) h = by variables h
     where
-      by : (vs : List Variable) → fit_or_refused s.schema (Storable b) (variable_head name (find (λ k. bytes_eq k.name name) (known vs))) ≡ None → store_well s.schema b (value_sort (bound_to (variable_named vs name))) ≡ true
+      by : (vs : List Variable) → fit_or_refused s.schema (Storable b) name (variable_typing (find (λ k. bytes_eq k.name name) (known vs))) ≡ None → store_well s.schema b (value_sort (bound_to (variable_named vs name))) ≡ true
       by [] k = null-stores s.schema b
       by (v ∷ vs) k =
-          either (bytes_eq v.name name) (λ c. fit_or_refused s.schema (Storable b) (variable_head name (cond c (Some (record { name = v.name; sort = value_sort v.value })) (find (λ k. bytes_eq k.name name) (known vs)))) ≡ None
+          either (bytes_eq v.name name) (λ c. fit_or_refused s.schema (Storable b) name (variable_typing (cond c (Some (record { name = v.name; sort = value_sort v.value })) (find (λ k. bytes_eq k.name name) (known vs)))) ≡ None
           → store_well s.schema b (value_sort (bound_to (cond c (Some v) (variable_named vs name)))) ≡ true)
-          (λ _ m. fit-none (Storable b) (One (value_sort v.value)) m) (λ _ m. by vs m) k
+          (λ _ m. fit-none (Storable b) name (One (value_sort v.value)) m) (λ _ m. by vs m) k
 
   -- a set fits no place of a single value
-  single-shape : (b : Sort) (a : Attribute) → fits s.schema (Storable b) (attribute_shape a) ≡ true → store_well s.schema b (kind_sort a.kind) ≡ true
-  single-shape b a h = either a.many (λ c. fits s.schema (Storable b) (if c then Many (kind_sort a.kind) else One (kind_sort a.kind)) ≡ true → store_well s.schema b (kind_sort a.kind) ≡ true) (λ _ m. absurd (true≢false (sym m))) (λ _ m. m) h
+  single-typing : (b : Sort) (a : Attribute) → fits s.schema (Storable b) (attribute_typing a) ≡ true → store_well s.schema b (kind_sort a.kind) ≡ true
+  single-typing b a h = either a.many (λ c. fits s.schema (Storable b) (if c then Many (kind_sort a.kind) else One (kind_sort a.kind)) ≡ true → store_well s.schema b (kind_sort a.kind) ≡ true) (λ _ m. absurd (true≢false (sym m))) (λ _ m. m) h
 
   way-sort : (b : Sort) (features : List (List ℕ)) (start : Start) → way_refused s.schema (known variables) (Storable b) features start ≡ None
       → store_well s.schema b (value_sort (single (features_value s features (start_value s variables start)))) ≡ true
   way-sort b [] start h = start-sort b start h
   way-sort b (name ∷ names) start h =
-      by (called s.schema name) refl (first-none (fit_or_refused s.schema (Storable b) (feature_head name (called s.schema name))) _ h)
+      by (called s.schema name) refl (first-none (fit_or_refused s.schema (Storable b) name (feature_typing (called s.schema name))) _ h)
     where
       rest : Value
       rest = single (features_value s names (start_value s variables start))
 
-      by : (c : Called) → called s.schema name ≡ c → fit_or_refused s.schema (Storable b) (feature_head name c) ≡ None → store_well s.schema b (value_sort (single (feature_value s c rest))) ≡ true
+      by : (c : Called Attribute) → called s.schema name ≡ c → fit_or_refused s.schema (Storable b) name (feature_typing c) ≡ None → store_well s.schema b (value_sort (single (feature_value s c rest))) ≡ true
       by Nothing e k = null-stores s.schema b
       by (Own a) e k =
-          let kind_fits = single-shape b a (fit-none (Storable b) (attribute_shape a) k) in
+          let kind_fits = single-typing b a (fit-none (Storable b) name (attribute_typing a) k) in
           attribute-gives s n a rest (called-own s.schema name a e) (λ w. store_well s.schema b (value_sort w) ≡ true) (null-stores s.schema b)
           (λ w m. chain b (kind_sort a.kind) (value_sort w) (kind_sort-some a.kind) kind_fits (held-sort s n a.kind w m))
       by (Inverse a) e k = subst (λ w. store_well s.schema b (value_sort w) ≡ true) (sym (inverse-gives s n a rest)) (null-stores s.schema b)

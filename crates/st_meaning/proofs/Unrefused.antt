@@ -1,9 +1,9 @@
 -- The lines of a transaction that no rule refuses.
 use Rattle.std.proofs.Common.{◌≡◌, ℕ, suc, ◌+◌, List, [], ◌∷◌, ◌++◌, length, Option, Some, None, refl, ap, ◌∙◌, arith, append-nil}
+use Rattle.st_lattice.specs.Outline.{Outline}
 use Rattle.st_query.specs.declared.statement.Statement.{Statement}
 use Rattle.st_state.specs.declared.refusal.Refusal.{Refusal}
 use Rattle.st_state.specs.State.{State, empty_state}
-use Rattle.st_lattice.specs.Outline.{Outline}
 use Rattle.st_meaning.specs.Statements.{Present, does}
 use Rattle.st_meaning.specs.Rules.{refusal}
 use Rattle.st_meaning.specs.Runs.{Run, outcome, followed, runs_statement, runs_from, runs, begun}

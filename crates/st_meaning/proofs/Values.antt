@@ -1,12 +1,14 @@
 -- What each kind of term stands for.
 use Rattle.std.proofs.Common.{◌≡◌, List, ℕ, refl, ap}
+use Rattle.st_lattice.specs.Called.{called}
 use Rattle.st_query.specs.declared.term.Literal.{Literal}
 use Rattle.st_query.specs.declared.term.Term.{Term}
 use Rattle.st_query.specs.declared.term.Term.TheVariants as term
 use Rattle.st_query.specs.declared.term.Variable.{Variable}
+use Rattle.st_query.specs.Terms.{literal_value, variable_value}
 use Rattle.st_query.proofs.Ways.{way-literal, way-variable, way-path}
 use Rattle.st_state.specs.State.{State}
-use Rattle.st_meaning.specs.Terms.{Single, single, literal_value, variable_value, called, feature_value, term_meaning, term_value}
+use Rattle.st_meaning.specs.Terms.{Single, single, feature_value, term_meaning, term_value}
 
 pub meaning_of_literal : (state : State) (variables : List Variable) (written : Literal) → term_meaning state variables (term.Literal written) ≡ Single (literal_value state.schema written)
 unfolding term_meaning

@@ -7,7 +7,7 @@ use Rattle.st_values.specs.declared.value.EntityId.{EntityId}
 use Rattle.st_values.specs.declared.value.Value.{Value}
 use Rattle.st_values.specs.Order.{same_value}
 use Rattle.st_values.specs.Arranged.{each_pair}
-use Rattle.st_values.proofs.Placing.{both, left, right, either, all-weaken}
+use Rattle.st_values.proofs.Tests.{both, left, right, either, all-weaken}
 use Rattle.st_lattice.specs.declared.attribute.Attribute.{Attribute}
 use Rattle.st_lattice.specs.Outline.{type_named, attribute}
 use Rattle.st_lattice.specs.Lattice.{isa, attribute_of}
@@ -16,40 +16,41 @@ use Rattle.st_query.specs.declared.statement.Cell.{Cell}
 use Rattle.st_query.specs.declared.statement.Statement.{Statement}
 use Rattle.st_query.specs.declared.statement.Statement.TheVariants.{Make, Set, Add, Take, Delete, Find, Ensure, Let, Print, ForEach, Abort}
 use Rattle.st_query.specs.Ways.{way}
+use Rattle.st_query.specs.Kinds.{known, expected_in}
+use Rattle.st_query.specs.Written.{have_own_names, is_written}
 use Rattle.st_state.specs.declared.triple.Triple.{Triple}
 use Rattle.st_state.specs.State.{State, is_live, turned}
 use Rattle.st_state.specs.Legal.{can_hold, is_sound, IsLegal}
+use Rattle.st_state.specs.Refusals.{first_of}
 use Rattle.st_state.proofs.Members.{find-passes, find-member}
 use Rattle.st_meaning.specs.Terms.{start_value}
 use Rattle.st_meaning.specs.Statements.{Present, value_now, makes, does, holder, key_holder, ensures, ensures_at}
-use Rattle.st_meaning.specs.Kinds.{first_of, known, term_refused}
-use Rattle.st_meaning.specs.Checks.{place_in, cell_name_refused, key_name_refused, cell_refused, key_refused, cells_refused, ensure_refused, typed_refused}
+use Rattle.st_meaning.specs.Checks.{cell_name_refused, key_name_refused, cell_refused, key_refused, cells_refused, ensure_refused, typed_refused, term_refused}
 use Rattle.st_meaning.specs.Rules.{dead, new_fillings, ensure_fillings, of_type, too_long, missing, shared, found_by, refusal}
 use Rattle.st_meaning.specs.Runs.{outcome, followed, begun, runs_statement, runs_from, runs}
-use Rattle.st_meaning.specs.Laws.{have_own_names, is_written}
 use Rattle.st_meaning.proofs.Sorts.{first-none, others-none}
 use Rattle.st_meaning.proofs.Legality.{Passes, passes-all, set-kept, add-kept, take-kept, delete-kept}
 use Rattle.st_meaning.proofs.Cells.{option-cases}
-use Rattle.st_meaning.proofs.Making.{each-none, all-map, none-is, is-none, named-there, made-legal, found-legal}
+use Rattle.st_meaning.proofs.Making.{each-none, all-map, own-names, none-is, is-none, named-there, made-legal, found-legal}
 
 module _ (p : Present) (g : IsLegal p.state) where
   abbrev s : State
   s = p.state
 
   -- the checks of cells, each by itself
-  cell-checked : (t : ℕ) (c : Cell) → is_none (cell_refused s.schema (known p.variables) t c) ≡ true → is_none (term_refused s.schema (known p.variables) (place_in (attribute_of s.schema t c.name)) c.value) ≡ true
+  cell-checked : (t : ℕ) (c : Cell) → is_none (cell_refused s.schema (known p.variables) t c) ≡ true → is_none (term_refused s.schema (known p.variables) (expected_in (attribute_of s.schema t c.name)) c.value) ≡ true
   cell-checked t c h =
-      is-none _ (first-none (term_refused s.schema (known p.variables) (place_in (attribute_of s.schema t c.name)) c.value) []
+      is-none _ (first-none (term_refused s.schema (known p.variables) (expected_in (attribute_of s.schema t c.name)) c.value) []
       (others-none (cell_name_refused c.name (attribute_of s.schema t c.name)) _ (none-is _ h)))
 
   cells-checked : (t : ℕ) (cells : List Cell) → cells_refused s.schema (known p.variables) t cells ≡ None
-      → list_all (λ c. is_none (term_refused s.schema (known p.variables) (place_in (attribute_of s.schema t c.name)) c.value)) cells ≡ true
+      → list_all (λ c. is_none (term_refused s.schema (known p.variables) (expected_in (attribute_of s.schema t c.name)) c.value)) cells ≡ true
   cells-checked t cells h =
       all-weaken (λ c. is_none (cell_refused s.schema (known p.variables) t c)) _ (cell-checked t) cells (each-none (cell_refused s.schema (known p.variables) t) cells h)
 
-  key-checked : (t : ℕ) (key : Cell) → key_refused s.schema (known p.variables) t key.name key.value ≡ None → is_none (term_refused s.schema (known p.variables) (place_in (attribute_of s.schema t key.name)) key.value) ≡ true
+  key-checked : (t : ℕ) (key : Cell) → key_refused s.schema (known p.variables) t key.name key.value ≡ None → is_none (term_refused s.schema (known p.variables) (expected_in (attribute_of s.schema t key.name)) key.value) ≡ true
   key-checked t key h =
-      is-none _ (first-none (term_refused s.schema (known p.variables) (place_in (attribute_of s.schema t key.name)) key.value) []
+      is-none _ (first-none (term_refused s.schema (known p.variables) (expected_in (attribute_of s.schema t key.name)) key.value) []
       (others-none (key_name_refused key.name (attribute_of s.schema t key.name)) _ h))
 
   -- the values of cells are live
@@ -70,7 +71,7 @@ module _ (p : Present) (g : IsLegal p.state) where
           → first_of (map (missing s.schema) (of_type (λ t. new_fillings p t cells (λ a. false)) o)) ≡ None
           → first_of (map (shared s None) (of_type (λ t. new_fillings p t cells (λ a. false)) o)) ≡ None → IsLegal (makes p var cells o).state
       by None e text long null shares = g
-      by (Some t) e text long null shares = made-legal p g t (named-there s.schema ty t e) cells d (λ a. false) (cells-checked t cells text) (cells-live cells h.live) long null shares
+      by (Some t) e text long null shares = made-legal p g t (named-there s.schema ty t e) cells (own-names cells d) (λ a. false) (cells-checked t cells text) (cells-live cells h.live) long null shares
 
   -- ---- ensure
 
@@ -105,12 +106,12 @@ module _ (p : Present) (g : IsLegal p.state) where
       at t there text None k long null shares =
           let first = key-checked t key (first-none (key_refused s.schema (known p.variables) t key.name key.value) _ text) in
           let others = cells-checked t cells (first-none (cells_refused s.schema (known p.variables) t cells) [] (others-none (key_refused s.schema (known p.variables) t key.name key.value) _ text)) in
-          made-legal p g t there (key ∷ cells) d (λ a. bytes_eq a.name key.name)
+          made-legal p g t there (key ∷ cells) (own-names (key ∷ cells) d) (λ a. bytes_eq a.name key.name)
           (both _ _ first others) (cells-live (key ∷ cells) h.live) long null shares
       at t there text (Some e) k long null shares =
           let is = holder-live t (attribute_of s.schema t key.name) (value_now p key.value) e k in
           let others = cells-checked t cells (first-none (cells_refused s.schema (known p.variables) t cells) [] (others-none (key_refused s.schema (known p.variables) t key.name key.value) _ text)) in
-          found-legal p g t e is.0 is.1 cells (right (list_all (λ b. not (bytes_eq b.name key.name)) cells) (each_pair (λ a b. not (bytes_eq b.name a.name)) cells) d) others
+          found-legal p g t e is.0 is.1 cells (right (list_all (λ b. not (bytes_eq b.name key.name)) cells) (each_pair (λ a b. not (bytes_eq b.name a.name)) cells) (own-names (key ∷ cells) d)) others
           (right (is_none (dead s (start_value s p.variables (way key.value).start))) (list_all (λ c. is_none (dead s (start_value s p.variables (way c.value).start))) cells) (cells-live (key ∷ cells) h.live)) long null shares
 
       by : (o : Option ℕ) → type_named s.schema ty ≡ o → typed_refused ty (λ t. ensure_refused s.schema (known p.variables) t (key ∷ cells)) o ≡ None

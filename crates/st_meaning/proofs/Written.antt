@@ -1,25 +1,27 @@
 -- The written order is total, tells entities apart, and arranges a selection in one way.
-use Rattle.std.proofs.Common.{◌≡◌, ℕ, Bool, true, false, List, [], ◌∷◌, refl, sym, ap, subst, arith}
+use Rattle.std.proofs.Common.{◌≡◌, ℕ, Bool, true, false, List, [], ◌∷◌, refl, sym, subst, ◌∙◌, true≢false}
 use Rattle.std.specs.Prelude.{◌||◌, IsPermutation, IsTrue, Option, Some, None}
 use Rattle.std.specs.List.{list_all}
 use Rattle.std.specs.declared.cmp.Ordering.{Ordering}
-use Rattle.std.specs.declared.cmp.Ordering.TheVariants.{Less, Equal, Greater}
-use Rattle.std.specs.Ordering.{is_lt, ordering_reverse, nat_cmp, on, then_cmp}
-use Rattle.std.specs.Cmp.{IsTotalOrder, nat_cmp_total, then_total, on_total, back_total, tied_itself}
+use Rattle.std.specs.declared.cmp.Ordering.TheVariants.{Equal}
+use Rattle.std.specs.Ordering.{ordering_reverse, nat_cmp, on, then_cmp}
+use Rattle.std.specs.Cmp.{IsTotalOrder, nat_cmp_total, then_total, on_total, back_total}
 use Rattle.st_values.specs.declared.value.EntityId.{EntityId}
 use Rattle.st_values.specs.declared.value.Value.{Value}
 use Rattle.st_values.specs.declared.value.Value.TheVariants.{Null, Int, Bool as Truth, Text, Entity}
-use Rattle.st_values.specs.Order.{value_order}
+use Rattle.st_values.specs.Order.{value_order, entity_before}
 use Rattle.st_values.specs.Arranged.{ascends}
 use Rattle.st_values.proofs.Total.{entity_order_total, value_order_total}
 use Rattle.st_values.proofs.Exact.{both_equal, exact_entities}
-use Rattle.st_values.proofs.Placing.{IsStrict, differ, ascends-filter, ascends-weaken, ascends-arranged, arranged-permutation, arranged-unique}
+use Rattle.st_values.proofs.Placing.{IsStrict, differ, ascends-arranged, arranged-permutation, arranged-unique}
+use Rattle.st_values.proofs.Tests.{ascends-filter, ascends-weaken}
+use Rattle.st_values.proofs.Entities.{strict, entity_before-strict}
 use Rattle.st_lattice.specs.Outline.{type_named}
 use Rattle.st_lattice.specs.Lattice.{isa}
-use Rattle.st_query.specs.declared.statement.Key.{Key}
-use Rattle.st_query.specs.declared.statement.Query.{Query}
+use Rattle.st_query.specs.declared.query.Key.{Key}
+use Rattle.st_query.specs.declared.query.Query.{Query}
 use Rattle.st_query.specs.declared.term.Variable.{Variable}
-use Rattle.st_state.specs.State.{State, entity_before}
+use Rattle.st_state.specs.State.{State}
 use Rattle.st_meaning.specs.Terms.{term_value}
 use Rattle.st_meaning.specs.Selection.{holds, directed, key_order, keys_order, written_order, written_before, variables_at, entities_in, selects, selected}
 
@@ -113,29 +115,9 @@ module _ (state : State) (variables : List Variable) (query : Query) where
   pub written_exact : (a b : EntityId) → written_order state variables query a b ≡ Equal → a ≡ b
   written_exact = keys_exact query.keys
 
-module _ {X : Type 0} (R : X → X → Ordering) (o : IsTotalOrder R) (exact : (a b : X) → R a b ≡ Equal → a ≡ b) where
-  is-less : (r : Ordering) → is_lt r ≡ true → r ≡ Less
-  is-less Less e = refl
-  is-less Equal e = cc
-  is-less Greater e = cc
-
-  level : (r s : Ordering) → r ≡ ordering_reverse s → is_lt r ≡ false → is_lt s ≡ false → r ≡ Equal
-  level Less s e f g = cc
-  level Equal s e f g = refl
-  level Greater Less e f g = cc
-  level Greater Equal e f g = cc
-  level Greater Greater e f g = cc
-
-  pub strict : IsStrict (λ a b. is_lt (R a b))
-  strict = record {
-    itself = λ a. ap is_lt (tied_itself o a);
-    chain = λ a b c h k. ap is_lt (o.trans a b c (is-less (R a b) h) (is-less (R b c) k));
-    tie = λ a b h k. exact a b (level (R a b) (R b a) (o.antisymm a b) h k);
-  }
-
 -- entities that stand before each other are told apart by each strict test
 entity_before-irreflexive : (a : EntityId) → entity_before a a ≡ true → ⊥
-entity_before-irreflexive a e = grind (arith, e)
+entity_before-irreflexive a e = true≢false (sym e ∙ entity_before-strict.itself a)
 
 module _ {before : EntityId → EntityId → Bool} (o : IsStrict before) where
   told_apart : (a b : EntityId) → entity_before a b ≡ true → differ before a b ≡ true

@@ -1,13 +1,8 @@
 -- What the laws of the definitions say.
-use Rattle.std.specs.Prelude.{false, not, ℕ, ◌≡◌, ◌==◌, Bool, true, ◌&&◌, List, [], ◌∷◌, take, Option, Some, None, is_none, slice_get, IsTrue}
+use Rattle.std.specs.Prelude.{ℕ, ◌≡◌, ◌==◌, Bool, true, ◌&&◌, List, [], ◌∷◌, take, Option, Some, None, is_none, slice_get, IsTrue}
 use Rattle.std.specs.List.{list_any, list_all}
-use Rattle.std.specs.Str.{bytes_eq}
-use Rattle.st_values.specs.Arranged.{each_pair}
-use Rattle.st_query.specs.declared.statement.Cell.{Cell}
-use Rattle.st_query.specs.declared.statement.Statement.{Statement}
-use Rattle.st_query.specs.declared.statement.Statement.TheVariants.{Make, Ensure}
 use Rattle.st_state.specs.declared.refusal.Refusal.{Refusal}
-use Rattle.st_state.specs.Rules.{rule_number}
+use Rattle.st_state.specs.Refusals.{rule_number}
 
 -- whether a refusal, if there is one, is by one of some rules
 abbrev pub is_by : List ℕ → Option Refusal → Bool
@@ -29,14 +24,3 @@ pub record IsFirst (refusals : List (Option Refusal)) (refusal : Refusal) : Type
   pub place : ℕ
   pub here : slice_get refusals place ≡ Some (Some refusal)
   pub none_before : IsTrue (list_all is_none (take place refusals))
-
--- whether the names of cells differ
-abbrev pub have_own_names : List Cell → Bool
-have_own_names cells = each_pair (λ a b. not (bytes_eq b.name a.name)) cells
-
--- whether a statement is one that can be written: the names of its cells differ, and an ensure has a key
-abbrev pub is_written : Statement → Bool
-is_written (Make var ty cells) = have_own_names cells
-is_written (Ensure var ty []) = false
-is_written (Ensure var ty (key ∷ cells)) = have_own_names (key ∷ cells)
-is_written _ = true

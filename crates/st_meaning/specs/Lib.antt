@@ -1,12 +1,10 @@
 pub mod Terms
 pub mod Selection
 pub mod Statements
-pub mod Kinds
 pub mod Checks
 pub mod Rules
 pub mod Runs
 pub mod Lines
-pub mod Footprint
 pub mod Laws
 pub mod Schemas
 pub mod Rows

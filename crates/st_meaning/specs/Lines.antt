@@ -6,7 +6,7 @@ use Rattle.st_lattice.specs.Outline.{Outline}
 use Rattle.st_query.specs.declared.statement.Statement.{Statement}
 use Rattle.st_state.specs.declared.refusal.Refusal.{Refusal}
 use Rattle.st_state.specs.declared.refusal.Refusal.TheVariants.{UnknownName, WrongType, NullNotAllowed, NotUnique, NoSuchEntity, StillNeeded, NotASet, TextTooLong, NumbersSpent, Aborted, NullEntity, TooManyPages, Full}
-use Rattle.st_state.specs.Rules.{rule_number}
+use Rattle.st_state.specs.Refusals.{rule_number}
 use Rattle.st_state.specs.State.{State, empty_state}
 use Rattle.st_meaning.specs.Statements.{Present, does, answers}
 use Rattle.st_meaning.specs.Runs.{RefusedAt, Run, begun, runs}

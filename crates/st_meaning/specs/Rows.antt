@@ -2,16 +2,16 @@
 use Rattle.std.specs.Prelude.{ℕ, ℤ, pos, negsuc, true, false, List, [], ◌∷◌, ◌++◌, flat_map, codes}
 use Rattle.st_lattice.specs.Outline.{Outline}
 use Rattle.st_query.specs.declared.statement.Cell.{Cell}
-use Rattle.st_query.specs.declared.statement.Condition.{Condition}
-use Rattle.st_query.specs.declared.statement.Key.{Key}
-use Rattle.st_query.specs.declared.statement.Query.{Query}
+use Rattle.st_query.specs.declared.query.Condition.{Condition}
+use Rattle.st_query.specs.declared.query.Key.{Key}
+use Rattle.st_query.specs.declared.query.Query.{Query}
 use Rattle.st_query.specs.declared.statement.Statement.{Statement}
 use Rattle.st_query.specs.declared.statement.Statement.TheVariants.{Make, Set, Print}
-use Rattle.st_state.specs.State.{empty_state}
-use Rattle.st_meaning.specs.Lines.{client_lines}
 use Rattle.st_query.specs.declared.term.Literal.TheVariants.{Null, Int, Bool, Text, Entity}
 use Rattle.st_query.specs.declared.term.Term.{Term, Path', more_of-Term, end_of-Term}
 use Rattle.st_query.specs.declared.term.Term.TheVariants.{Literal, Variable}
+use Rattle.st_state.specs.State.{empty_state}
+use Rattle.st_meaning.specs.Lines.{client_lines}
 
 -- a feature of what a term stands for, as a path is built of the term in it
 abbrev pub path : List ℕ → Term → Term

@@ -1,35 +1,32 @@
--- The rules by which a statement is refused, each by itself, and their order.
-use Rattle.std.specs.Prelude.{ℕ, Bool, true, false, not, ◌||◌, ◌&&◌, nat_lt, nat_le, if◌then◌else◌, List, [], ◌∷◌, ◌++◌, map, filter, find, filter_map, flat_map, length, slice_index, Option, Some, None}
+-- The rules by which a statement is refused, each by itself, and their order. What a base answers of a state is in
+-- `Bases` of `st_state`.
+use Rattle.std.specs.Prelude.{ℕ, Bool, true, false, ◌||◌, ◌&&◌, nat_le, if◌then◌else◌, List, [], ◌∷◌, map, find, filter_map, length, Option, Some, None}
 use Rattle.std.specs.Str.{bytes_eq}
 use Rattle.st_values.specs.declared.value.EntityId.{EntityId}
 use Rattle.st_values.specs.declared.value.Kind.{Kind}
 use Rattle.st_values.specs.declared.value.Kind.TheVariants as kind
 use Rattle.st_values.specs.declared.value.Value.{Value}
 use Rattle.st_values.specs.declared.value.Value.TheVariants as value
-use Rattle.st_values.specs.Arranged.{arranged}
 use Rattle.st_lattice.specs.declared.attribute.Attribute.{Attribute}
-use Rattle.st_lattice.specs.Outline.{Outline, type_named, qualified}
+use Rattle.st_lattice.specs.declared.called.Called.{Called}
+use Rattle.st_lattice.specs.declared.called.Called.TheVariants.{Own}
+use Rattle.st_lattice.specs.Called.{called}
+use Rattle.st_lattice.specs.Outline.{Outline, type_named, attribute_name}
 use Rattle.st_lattice.specs.Lattice.{attributes_in}
 use Rattle.st_query.specs.declared.statement.Cell.{Cell}
-use Rattle.st_query.specs.declared.statement.Condition.{Condition}
-use Rattle.st_query.specs.declared.statement.Condition.TheVariants as condition
-use Rattle.st_query.specs.declared.statement.Query.{Query}
 use Rattle.st_query.specs.declared.statement.Statement.{Statement}
-use Rattle.st_query.specs.declared.statement.Statement.TheVariants.{Make, Set, Add, Take, Delete, Find, Ensure, Let, Print, ForEach, Abort}
-use Rattle.st_query.specs.declared.term.Term.{Term}
-use Rattle.st_query.specs.Ways.{Start, Written, Named, way}
+use Rattle.st_query.specs.declared.statement.Statement.TheVariants.{Make, Set, Add, Take, Delete, Ensure, Abort}
+use Rattle.st_query.specs.Kinds.{known}
+use Rattle.st_query.specs.Written.{starts_of}
 use Rattle.st_state.specs.declared.refusal.Refusal.{Refusal}
-use Rattle.st_state.specs.declared.refusal.Refusal.TheVariants.{NullNotAllowed, NotUnique, NoSuchEntity, StillNeeded, TextTooLong, NumbersSpent, Aborted, NullEntity}
-use Rattle.st_state.specs.State.{State, same_entity, is_live, turned}
-use Rattle.st_meaning.specs.Terms.{Called, Own, called, start_value}
+use Rattle.st_state.specs.declared.refusal.Refusal.TheVariants.{NullNotAllowed, NoSuchEntity, TextTooLong, Aborted, NullEntity}
+use Rattle.st_state.specs.Refusals.{first_of}
+use Rattle.st_state.specs.State.{State, is_live}
+use Rattle.st_state.specs.Bases.{not_unique, still_needed, spent}
+use Rattle.st_meaning.specs.Terms.{start_value}
 use Rattle.st_meaning.specs.Selection.{is_null}
 use Rattle.st_meaning.specs.Statements.{Present, value_now, key_holder}
-use Rattle.st_meaning.specs.Kinds.{first_of, known}
 use Rattle.st_meaning.specs.Checks.{text_refused}
-
--- the qualified name of an attribute
-abbrev pub attribute_name : Outline → Attribute → List ℕ
-attribute_name schema a = qualified schema a.owner a.name
 
 -- rule 10: the transaction gives itself up
 abbrev pub rule_10 : Present → Statement → Option Refusal
@@ -39,40 +36,6 @@ rule_10 p _ = None
 -- rules 1, 2 and 7: names that aren't there, kinds that don't fit, sets that are none
 abbrev pub rules_1_2_7 : Present → Statement → Option Refusal
 rules_1_2_7 p statement = text_refused p.state.schema (known p.variables) statement
-
--- the terms of a condition, in text order
-abbrev pub condition_terms : Condition → List Term
-condition_terms (condition.Compare sign left right) = left ∷ right ∷ []
-condition_terms (condition.Null term) = term ∷ []
-condition_terms (condition.NotNull term) = term ∷ []
-condition_terms (condition.Member v set) = v ∷ set ∷ []
-
-abbrev pub query_terms : Query → List Term
-query_terms query = flat_map condition_terms query.conditions ++ map (λ key. key.term) query.keys ++ query.shown
-
--- the terms of a statement, in text order
-abbrev pub terms_of : Statement → List Term
-terms_of (Make var ty cells) = map (λ cell. cell.value) cells
-terms_of (Set feature target written) = target ∷ written ∷ []
-terms_of (Add feature target written) = target ∷ written ∷ []
-terms_of (Take feature target written) = target ∷ written ∷ []
-terms_of (Delete target) = target ∷ []
-terms_of (Find var ty key written) = written ∷ []
-terms_of (Ensure var ty cells) = map (λ cell. cell.value) cells
-terms_of (Let var written) = written ∷ []
-terms_of (Print terms) = terms
-terms_of (ForEach query) = query_terms query
-terms_of Abort = []
-
--- whether a term begins with a variable of this name
-abbrev pub begins_with : List ℕ → Start → Bool
-begins_with name (Written _) = false
-begins_with name (Named other) = bytes_eq other name
-
--- what the terms begin with: the literals and variables of a statement, without the variable of a query
-abbrev pub starts_of : Statement → List Start
-starts_of (ForEach query) = filter (λ start. not (begins_with query.var start)) (map (λ term. (way term).start) (query_terms query))
-starts_of statement = map (λ term. (way term).start) (terms_of statement)
 
 -- an entity that isn't live
 abbrev pub dead : State → Value → Option Refusal
@@ -130,12 +93,12 @@ ensure_fillings p ty (key ∷ cells) (Some e) = cell_fillings p ty cells
 ensure_fillings p ty (key ∷ cells) None = new_fillings p ty (key ∷ cells) (λ a. bytes_eq a.name key.name)
 
 -- the attribute of a set
-abbrev pub set_fillings : Value → Called → List Filling
+abbrev pub set_fillings : Value → Called Attribute → List Filling
 set_fillings v (Own a) = record { attribute = a; value = v; wanted = a.no_nulls } ∷ []
 set_fillings v _ = []
 
 -- a set takes and gives no null
-abbrev pub member_fillings : Value → Called → List Filling
+abbrev pub member_fillings : Value → Called Attribute → List Filling
 member_fillings v (Own a) = record { attribute = a; value = v; wanted = true } ∷ []
 member_fillings v _ = []
 
@@ -185,58 +148,37 @@ filled_by p (Set feature target written) = entity_in (value_now p target)
 filled_by p (Ensure var ty cells) = found_by p cells (type_named p.state.schema ty)
 filled_by p _ = None
 
--- whether an entity is another one than the one that is filled
-abbrev pub is_other : Option EntityId → EntityId → Bool
-is_other None other = true
-is_other (Some e) other = not (same_entity e other)
-
-abbrev pub shared_with : Outline → Attribute → Option EntityId → Option Refusal
-shared_with schema a None = None
-shared_with schema a (Some other) = Some (NotUnique (attribute_name schema a) other)
-
+-- what a base says of a filling, where an entity is filled that is there already, or none
 abbrev pub shared : State → Option EntityId → Filling → Option Refusal
-shared state filled f =
-    if f.attribute.unique then shared_with state.schema f.attribute (find (is_other filled) (turned f.attribute.number f.value state.triples)) else None
+shared state filled f = not_unique state f.attribute filled f.value
 
 -- rule 4: another entity has the value of a unique attribute; null is never held
 abbrev pub rule_4 : Present → Statement → Option Refusal
 rule_4 p statement = first_of (map (shared p.state (filled_by p statement)) (fillings p statement))
 
--- the attributes of a schema in the order of their numbers
-abbrev pub by_number : Outline → List Attribute
-by_number schema = arranged (λ a b. nat_lt a.number b.number) schema.attributes
-
-abbrev pub needed_by : Outline → Attribute → Option EntityId → Option Refusal
-needed_by schema a None = None
-needed_by schema a (Some other) = Some (StillNeeded other (attribute_name schema a))
-
--- the least other entity that needs an entity by an attribute
-abbrev pub needed : State → EntityId → Attribute → Option Refusal
-needed state e a =
-    if a.no_nulls then needed_by state.schema a (find (is_other (Some e)) (turned a.number (value.Entity e) state.triples)) else None
-
-abbrev pub still_needed : State → Value → Option Refusal
-still_needed state (value.Entity e) = first_of (map (needed state e) (by_number state.schema))
-still_needed state _ = None
+-- what a base says of a value that is to be deleted, if it is an entity
+abbrev pub needed_value : State → Value → Option Refusal
+needed_value state (value.Entity e) = still_needed state e
+needed_value state _ = None
 
 -- rule 6: another entity refers to one that is to be deleted by an attribute that admits no null; the least attribute number
 abbrev pub rule_6 : Present → Statement → Option Refusal
-rule_6 p (Delete target) = still_needed p.state (value_now p target)
+rule_6 p (Delete target) = needed_value p.state (value_now p target)
 rule_6 p _ = None
 
--- whether all serials of a type were given out
-abbrev pub spent : State → List ℕ → Option ℕ → Option Refusal
-spent state name None = None
-spent state name (Some ty) = if nat_lt (slice_index state.last ty) 4294967295 then None else Some (NumbersSpent name)
+-- what a base says of a type that is known
+abbrev pub spent_type : State → Option ℕ → Option Refusal
+spent_type state None = None
+spent_type state (Some ty) = spent state ty
 
-abbrev pub spent_unless_found : State → List ℕ → Option EntityId → Option ℕ → Option Refusal
-spent_unless_found state name (Some _) ty = None
-spent_unless_found state name None ty = spent state name ty
+abbrev pub spent_unless_found : State → Option EntityId → Option ℕ → Option Refusal
+spent_unless_found state (Some _) ty = None
+spent_unless_found state None ty = spent_type state ty
 
 -- rule 9: an entity is to be made, and all serials of its type were given out
 abbrev pub rule_9 : Present → Statement → Option Refusal
-rule_9 p (Make var ty cells) = spent p.state ty (type_named p.state.schema ty)
-rule_9 p (Ensure var ty cells) = spent_unless_found p.state ty (filled_by p (Ensure var ty cells)) (type_named p.state.schema ty)
+rule_9 p (Make var ty cells) = spent_type p.state (type_named p.state.schema ty)
+rule_9 p (Ensure var ty cells) = spent_unless_found p.state (filled_by p (Ensure var ty cells)) (type_named p.state.schema ty)
 rule_9 p _ = None
 
 -- what each rule says of a statement, in the order of the rules

@@ -10,15 +10,16 @@ use Rattle.st_values.specs.declared.value.Value.TheVariants.{Null, Entity}
 use Rattle.st_values.specs.Order.{entity_order, value_order, same_value}
 use Rattle.st_values.specs.Arranged.{arranged}
 use Rattle.st_lattice.specs.Outline.{type_named}
-use Rattle.st_query.specs.declared.statement.Condition.{Condition}
-use Rattle.st_query.specs.declared.statement.Condition.TheVariants as condition
-use Rattle.st_query.specs.declared.statement.Key.{Key}
-use Rattle.st_query.specs.declared.statement.Query.{Query}
-use Rattle.st_query.specs.declared.statement.Sign.{Sign}
-use Rattle.st_query.specs.declared.statement.Sign.TheVariants as sign
+use Rattle.st_query.specs.declared.query.Condition.{Condition}
+use Rattle.st_query.specs.declared.query.Condition.TheVariants as condition
+use Rattle.st_query.specs.declared.query.Key.{Key}
+use Rattle.st_query.specs.declared.query.Query.{Query}
+use Rattle.st_query.specs.declared.query.Sign.{Sign}
+use Rattle.st_query.specs.declared.query.Sign.TheVariants as sign
 use Rattle.st_query.specs.declared.term.Variable.{Variable}
+use Rattle.st_query.specs.Terms.{bind}
 use Rattle.st_state.specs.State.{State, entities_of}
-use Rattle.st_meaning.specs.Terms.{Meaning, Single, Set, bind, term_meaning, term_value}
+use Rattle.st_meaning.specs.Terms.{Meaning, Single, Set, term_meaning, term_value}
 
 -- whether two values stand so in the order of values
 abbrev pub meets : Sign → Ordering → Bool

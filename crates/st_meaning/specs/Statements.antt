@@ -7,16 +7,20 @@ use Rattle.st_values.specs.declared.value.Value.{Value}
 use Rattle.st_values.specs.declared.value.Value.TheVariants as value
 use Rattle.st_values.specs.Print.{printed}
 use Rattle.st_lattice.specs.declared.attribute.Attribute.{Attribute}
+use Rattle.st_lattice.specs.declared.called.Called.{Called}
+use Rattle.st_lattice.specs.declared.called.Called.TheVariants.{Own}
+use Rattle.st_lattice.specs.Called.{called}
 use Rattle.st_lattice.specs.Outline.{type_named}
 use Rattle.st_lattice.specs.Lattice.{isa, attribute_of}
 use Rattle.st_query.specs.declared.statement.Cell.{Cell}
-use Rattle.st_query.specs.declared.statement.Query.{Query}
+use Rattle.st_query.specs.declared.query.Query.{Query}
 use Rattle.st_query.specs.declared.statement.Statement.{Statement}
 use Rattle.st_query.specs.declared.statement.Statement.TheVariants.{Make, Set as SetTo, Add, Take, Delete, Find, Ensure, Let, Print, ForEach, Abort}
 use Rattle.st_query.specs.declared.term.Term.{Term}
 use Rattle.st_query.specs.declared.term.Variable.{Variable}
+use Rattle.st_query.specs.Terms.{bind}
 use Rattle.st_state.specs.State.{State, turned, next_entity, entity_made, attribute_set, member_added, member_taken, entity_deleted}
-use Rattle.st_meaning.specs.Terms.{Meaning, Single, Set, Called, Own, called, bind, term_meaning, term_value}
+use Rattle.st_meaning.specs.Terms.{Meaning, Single, Set, term_meaning, term_value}
 use Rattle.st_meaning.specs.Selection.{variables_at, selected}
 
 -- a state and the variables of the transaction that runs in it
@@ -59,17 +63,17 @@ makes p var cells None = p
 makes p var cells (Some ty) = makes_of p var cells ty
 
 -- set: the attribute's value
-abbrev pub sets : State → Called → Value → Value → State
+abbrev pub sets : State → Called Attribute → Value → Value → State
 sets state (Own attribute) (value.Entity entity) v = attribute_set state attribute.number entity v
 sets state _ _ v = state
 
 -- add-to-set: a value put into the attribute's set
-abbrev pub adds : State → Called → Value → Value → State
+abbrev pub adds : State → Called Attribute → Value → Value → State
 adds state (Own attribute) (value.Entity entity) v = member_added state attribute.number entity v
 adds state _ _ v = state
 
 -- delete-from-set: a value taken out of the attribute's set
-abbrev pub takes : State → Called → Value → Value → State
+abbrev pub takes : State → Called Attribute → Value → Value → State
 takes state (Own attribute) (value.Entity entity) v = member_taken state attribute.number entity v
 takes state _ _ v = state
 

@@ -1,18 +1,14 @@
 -- What terms stand for. A term is asked once it was found to be in form: elsewhere it stands for null.
-use Rattle.std.specs.Prelude.{ℕ, ◌+◌, if◌then◌else◌, List, [], ◌∷◌, ◌++◌, map, find, take, drop, Option, Some, None}
-use Rattle.std.specs.List.{position_or_len}
-use Rattle.std.specs.Str.{bytes_eq}
+use Rattle.std.specs.Prelude.{ℕ, if◌then◌else◌, List, [], ◌∷◌, map}
 use Rattle.st_values.specs.declared.value.Value.{Value}
 use Rattle.st_values.specs.declared.value.Value.TheVariants as value
 use Rattle.st_lattice.specs.declared.attribute.Attribute.{Attribute}
-use Rattle.st_lattice.specs.declared.feature.Feature.{Feature}
-use Rattle.st_lattice.specs.declared.feature.Feature.TheVariants as feature
-use Rattle.st_lattice.specs.Outline.{Outline, type_named, attribute}
-use Rattle.st_lattice.specs.Features.{lookup}
-use Rattle.st_query.specs.declared.term.Literal.{Literal}
-use Rattle.st_query.specs.declared.term.Literal.TheVariants as literal
+use Rattle.st_lattice.specs.declared.called.Called.{Called}
+use Rattle.st_lattice.specs.declared.called.Called.TheVariants.{Nothing, Own, Inverse}
+use Rattle.st_lattice.specs.Called.{called}
 use Rattle.st_query.specs.declared.term.Term.{Term}
 use Rattle.st_query.specs.declared.term.Variable.{Variable}
+use Rattle.st_query.specs.Terms.{literal_value, variable_value}
 use Rattle.st_query.specs.Ways.{Start, Written, Named, Way, way}
 use Rattle.st_state.specs.State.{State, values_at, value_at, turned}
 pub use Rattle.st_meaning.specs.declared.meaning.Meaning.{Meaning}
@@ -22,59 +18,6 @@ pub use Rattle.st_meaning.specs.declared.meaning.Meaning.TheVariants.{Single, Se
 abbrev pub single : Meaning → Value
 single (Single v) = v
 single (Set _) = value.Null
-
--- an entity that is written out, where its type is known
-abbrev pub entity_value : Option ℕ → ℕ → Value
-entity_value None serial = value.Null
-entity_value (Some ty) serial = value.Entity (record { ty = ty; serial = serial })
-
--- a literal stands for itself
-abbrev pub literal_value : Outline → Literal → Value
-literal_value schema literal.Null = value.Null
-literal_value schema (literal.Int number) = value.Int number
-literal_value schema (literal.Bool truth) = value.Bool truth
-literal_value schema (literal.Text text) = value.Text text
-literal_value schema (literal.Entity ty serial) = entity_value (type_named schema ty) serial
-
--- the variable with a name
-abbrev pub variable_named : List Variable → List ℕ → Option Variable
-variable_named variables name = find (λ variable. bytes_eq variable.name name) variables
-
--- what a variable is bound to
-abbrev pub bound_to : Option Variable → Value
-bound_to None = value.Null
-bound_to (Some variable) = variable.value
-
-abbrev pub variable_value : List Variable → List ℕ → Value
-variable_value variables name = bound_to (variable_named variables name)
-
--- a name bound to a value, anew where it was bound
-abbrev pub bind : List ℕ → Value → List Variable → List Variable
-bind name v variables =
-    let place = position_or_len (λ variable. bytes_eq variable.name name) variables in
-    take place variables ++ record { name = name; value = v } ∷ drop (place + 1) variables
-
--- what a qualified name calls: nothing, an attribute, or the inverse of one
-pub data Called : Type 0 where
-  Nothing : Called
-  Own : Attribute → Called
-  Inverse : Attribute → Called
-
-abbrev pub own : Option Attribute → Called
-own None = Nothing
-own (Some a) = Own a
-
-abbrev pub inverse : Option Attribute → Called
-inverse None = Nothing
-inverse (Some a) = Inverse a
-
-abbrev pub called_by : Outline → Option Feature → Called
-called_by schema None = Nothing
-called_by schema (Some (feature.Attribute number)) = own (attribute schema number)
-called_by schema (Some (feature.Inverse number)) = inverse (attribute schema number)
-
-abbrev pub called : Outline → List ℕ → Called
-called schema name = called_by schema (lookup schema name)
 
 -- the value of an entity's attribute, or its set; over null it is null or the empty set
 abbrev pub attribute_value : State → Attribute → Value → Meaning
@@ -87,7 +30,7 @@ inverse_value state a (value.Entity e) = Set (map value.Entity (turned a.number 
 inverse_value state a _ = Set []
 
 -- a feature of a value
-abbrev pub feature_value : State → Called → Value → Meaning
+abbrev pub feature_value : State → Called Attribute → Value → Meaning
 feature_value state Nothing v = Single value.Null
 feature_value state (Own a) v = attribute_value state a v
 feature_value state (Inverse a) v = inverse_value state a v

@@ -1,7 +1,7 @@
 ghost use Rattle.std.specs.Prelude.{◌≡◌, ℕ, List, [], ◌∷◌, codes};
 ghost use Rattle.st_query.specs.declared.term.Term.{Term};
 ghost use Rattle.st_query.specs.declared.term.Term.TheVariants as term;
-ghost use Rattle.st_meaning.specs.Footprint.{footprint};
+ghost use Rattle.st_query.specs.Footprint.{footprint};
 ghost use Rattle.st_meaning.specs.Lines.{client_lines};
 ghost use Rattle.st_meaning.specs.Rows.{lines, path};
 ghost use Rattle.st_meaning.specs.Schemas.{club, pets, staff};

@@ -4,18 +4,20 @@ ghost use Rattle.std.specs.Cmp.{IsTotalOrder};
 ghost use Rattle.std.specs.declared.cmp.Ordering.TheVariants.{Equal};
 ghost use Rattle.st_values.specs.declared.value.EntityId.{EntityId};
 ghost use Rattle.st_values.specs.Arranged.{ascends};
+ghost use Rattle.st_values.specs.Order.{entity_before};
 ghost use Rattle.st_lattice.specs.Outline.{Outline, IsOrderly};
-ghost use Rattle.st_lattice.specs.Plain.{IsPlain};
+ghost use Rattle.st_lattice.specs.Consistent.{IsConsistent};
 ghost use Rattle.st_query.specs.declared.statement.Statement.{Statement};
 ghost use Rattle.st_query.specs.declared.statement.Statement.TheVariants as statement;
-ghost use Rattle.st_query.specs.declared.statement.Query.{Query};
+ghost use Rattle.st_query.specs.declared.query.Query.{Query};
 ghost use Rattle.st_query.specs.declared.term.Term.{Term};
 ghost use Rattle.st_query.specs.declared.term.Variable.{Variable};
+ghost use Rattle.st_query.specs.Written.{is_written};
 ghost use Rattle.st_state.specs.declared.refusal.Refusal.{Refusal};
 ghost use Rattle.st_state.specs.Legal.{IsNearlyLegal, IsLegal};
-ghost use Rattle.st_state.specs.State.{State, empty_state, entity_before, entity_made};
+ghost use Rattle.st_state.specs.State.{State, empty_state, entity_made};
 ghost use Rattle.st_meaning.specs.Lines.{output_of, unrefused_output};
-ghost use Rattle.st_meaning.specs.Laws.{are_by, order_of_rules, IsFirst, is_written};
+ghost use Rattle.st_meaning.specs.Laws.{are_by, order_of_rules, IsFirst};
 ghost use Rattle.st_meaning.specs.Rules.{rules, refusal};
 ghost use Rattle.st_meaning.specs.Runs.{RefusedAt, runs};
 ghost use Rattle.st_meaning.specs.Selection.{selects, selected, written_before, written_order};
@@ -54,7 +56,7 @@ pub fn laws_of_orders()
 /// leaves a legal state where no rule refuses it, and that a transaction does in any case. A new
 /// entity by itself leaves a state that is nearly legal: its cells are still to come.
 pub fn laws_of_states()
-    ensures empty { (schema : Outline) → IsOrderly schema → IsPlain schema → IsLegal (empty_state schema) }
+    ensures empty { (schema : Outline) → IsOrderly schema → IsConsistent schema → IsLegal (empty_state schema) }
     ensures made { (state : State) (ty : ℕ) → IsNearlyLegal state → ty < length state.schema.names → IsNearlyLegal (entity_made state ty) }
     ensures statement { (p : Present) → IsLegal p.state → (s : Statement) → IsTrue (is_written s) → refusal p s ≡ None → IsLegal (does p s).state }
     ensures run { (state : State) (statements : List Statement) → IsLegal state → IsTrue (list_all is_written statements) → IsLegal (runs state statements).state }

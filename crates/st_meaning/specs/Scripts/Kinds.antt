@@ -1,7 +1,7 @@
 -- Scripts on kinds that do not fit, as they are written.
 use Rattle.std.specs.Prelude.{pos, List, [], ◌∷◌, codes}
-use Rattle.st_query.specs.declared.statement.Condition.TheVariants.{Compare, Member}
-use Rattle.st_query.specs.declared.statement.Sign.TheVariants as sign
+use Rattle.st_query.specs.declared.query.Condition.TheVariants.{Compare, Member}
+use Rattle.st_query.specs.declared.query.Sign.TheVariants as sign
 use Rattle.st_query.specs.declared.statement.Statement.{Statement}
 use Rattle.st_query.specs.declared.statement.Statement.TheVariants.{Make, Set, Find, Let, Print, ForEach}
 use Rattle.st_query.specs.declared.term.Literal.TheVariants.{Null}

@@ -1,8 +1,8 @@
 -- Scripts on selections and their order, as they are written.
 use Rattle.std.specs.Prelude.{pos, true, false, List, [], ◌∷◌, codes}
-use Rattle.st_query.specs.declared.statement.Condition.TheVariants as condition
-use Rattle.st_query.specs.declared.statement.Condition.TheVariants.{Compare, NotNull, Member}
-use Rattle.st_query.specs.declared.statement.Sign.TheVariants as sign
+use Rattle.st_query.specs.declared.query.Condition.TheVariants as condition
+use Rattle.st_query.specs.declared.query.Condition.TheVariants.{Compare, NotNull, Member}
+use Rattle.st_query.specs.declared.query.Sign.TheVariants as sign
 use Rattle.st_query.specs.declared.statement.Statement.{Statement}
 use Rattle.st_query.specs.declared.statement.Statement.TheVariants.{Make, Add, ForEach}
 use Rattle.st_query.specs.declared.term.Literal.TheVariants.{Null}

@@ -1,7 +1,7 @@
 -- Scripts on the longest texts, as they are written.
 use Rattle.std.specs.Prelude.{List, [], ◌∷◌, codes, replicate}
-use Rattle.st_query.specs.declared.statement.Condition.TheVariants.{Compare}
-use Rattle.st_query.specs.declared.statement.Sign.TheVariants as sign
+use Rattle.st_query.specs.declared.query.Condition.TheVariants.{Compare}
+use Rattle.st_query.specs.declared.query.Sign.TheVariants as sign
 use Rattle.st_query.specs.declared.statement.Statement.{Statement}
 use Rattle.st_query.specs.declared.statement.Statement.TheVariants.{Make, ForEach}
 use Rattle.st_query.specs.declared.term.Term.TheVariants.{Variable}

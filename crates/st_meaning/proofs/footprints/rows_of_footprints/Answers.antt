@@ -1,6 +1,6 @@
 use Rattle.std.proofs.Common.{refl}
 use Rattle.st_query.specs.Ways.{way}
-use Rattle.st_meaning.specs.Footprint.{footprint}
+use Rattle.st_query.specs.Footprint.{footprint}
 use Rattle.st_meaning.proofs.footprints.rows_of_footprints.Goals as goal
 
 pub returns-clause-make : goal.returns-clause-make

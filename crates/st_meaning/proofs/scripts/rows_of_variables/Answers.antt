@@ -2,7 +2,7 @@ use Rattle.std.proofs.Common.{refl}
 use Rattle.std.specs.Fmt.{digits}
 use Rattle.st_query.specs.Ways.{way}
 use Rattle.st_meaning.specs.Terms.{term_meaning}
-use Rattle.st_meaning.specs.Kinds.{term_refused}
+use Rattle.st_meaning.specs.Checks.{term_refused}
 use Rattle.st_meaning.specs.Rules.{refusal}
 use Rattle.st_meaning.specs.Runs.{runs, runs_statement}
 use Rattle.st_meaning.specs.Lines.{client_lines}
