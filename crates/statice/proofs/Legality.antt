@@ -2,11 +2,11 @@
 use Rattle.std.proofs.Common.{◌≡◌, true, List, [], ◌∷◌, arith, All}
 use Rattle.std.specs.List.{list_all}
 use Rattle.std.proofs.lemmas.List.Elements.{All-cons}
-use Rattle.st_values.proofs.Placing.{left, right}
+use Rattle.st_values.proofs.Tests.{left, right}
 use Rattle.st_query.specs.declared.statement.Statement.{Statement}
 use Rattle.st_state.specs.Legal.{IsLegal}
 use Rattle.st_state.specs.State.{State}
-use Rattle.st_meaning.specs.Laws.{is_written}
+use Rattle.st_query.specs.Written.{is_written}
 use Rattle.st_meaning.specs.Runs.{runs, states_after}
 
 -- a transaction leaves a legal state

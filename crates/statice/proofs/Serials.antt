@@ -11,7 +11,10 @@ use Rattle.st_query.specs.declared.statement.Cell.{Cell}
 use Rattle.st_query.specs.declared.statement.Statement.{Statement}
 use Rattle.st_query.specs.declared.statement.Statement.TheVariants.{Make, Set, Add, Take, Delete, Find, Ensure, Let, Print, ForEach, Abort}
 use Rattle.st_state.specs.State.{State}
-use Rattle.st_meaning.specs.Terms.{Called, Nothing, Own, Inverse, called, term_value}
+use Rattle.st_lattice.specs.declared.called.Called.{Called}
+use Rattle.st_lattice.specs.declared.called.Called.TheVariants.{Nothing, Own, Inverse}
+use Rattle.st_lattice.specs.Called.{called}
+use Rattle.st_meaning.specs.Terms.{term_value}
 use Rattle.st_query.specs.Thin.{IsThinStatement}
 use Rattle.st_meaning.specs.Statements.{Present, cell_set, cells_set, makes, sets, does}
 
@@ -32,7 +35,7 @@ cells_set-last ty e (cell ∷ cells) [] state = refl
 cells_set-last ty e (cell ∷ cells) (v ∷ vs) state =
     cells_set-last ty e cells vs (cell_set (attribute_of state.schema ty cell.name) e v state) ∙ cell_set-last (attribute_of state.schema ty cell.name) e v state
 
-sets-last : (state : State) (c : Called) (target v : Value) → (sets state c target v).last ≡ state.last
+sets-last : (state : State) (c : Called Attribute) (target v : Value) → (sets state c target v).last ≡ state.last
 sets-last state Nothing target v = refl
 sets-last state (Inverse a) target v = refl
 sets-last state (Own a) value.Null v = refl

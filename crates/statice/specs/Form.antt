@@ -4,7 +4,8 @@ use Rattle.std.specs.Option.{option_map}
 use Rattle.st_sexp.specs.declared.form.Form.{Form}
 use Rattle.st_sexp.specs.Reading.{Due}
 use Rattle.st_lattice.specs.Outline.{Outline}
-use Rattle.st_schema.specs.Written.{Reading, and_then}
+use Rattle.st_sexp.specs.Items.{and_then}
+use Rattle.st_schema.specs.Written.{Reading}
 use Rattle.st_schema.specs.Meaning.{schema_of}
 use Rattle.st_query.specs.declared.statement.Statement.{Statement}
 use Rattle.st_thin.specs.Split.{schema_part, script_part}

@@ -6,14 +6,14 @@ ghost use Rattle.st_schema.specs.Meaning.{schema_of};
 ghost use Rattle.st_query.specs.declared.statement.Statement.{Statement};
 ghost use Rattle.st_state.specs.Legal.{IsLegal};
 ghost use Rattle.st_state.specs.State.{empty_state};
-ghost use Rattle.st_meaning.specs.Laws.{is_written};
+ghost use Rattle.st_query.specs.Written.{is_written};
 ghost use Rattle.st_meaning.specs.Runs.{states_after};
 ghost use Rattle.statice.specs.Fault.{IsFaulty};
 ghost use Rattle.statice.specs.Form.{Program, IsThin, IsNotThin};
 
 use st_meaning::laws_of_states;
-use st_schema::{laws_of_schemas, never_memory};
-use st_sexp::one_answer;
+use st_schema::laws_of_schemas;
+use st_sexp::laws_of_texts;
 
 /// A database whose schema was read is legal as long as it lives: while it is new, and after each of any transactions
 /// that can be written, one after another, whether they are refused or not.
@@ -35,6 +35,6 @@ pub fn laws_of_inputs()
     ensures one_program { (input : List ℕ) (a b : Program) → IsThin input a → IsThin input b → a ≡ b }
     ensures one_line { (input a b : List ℕ) → IsFaulty input a → IsFaulty input b → a ≡ b }
 {
-    one_answer();
-    never_memory();
+    laws_of_texts();
+    laws_of_schemas();
 }
