@@ -20,8 +20,6 @@ mod sink;
 mod source;
 mod stdin_source;
 mod stdout_sink;
-#[cfg(test)]
-mod tests;
 
 pub use disk::Disk;
 pub use failed::Failed;

@@ -140,38 +140,3 @@ impl PartialEq for Letters {
 impl Eq for Letters {
     ghost laws = { nat_list_eq_equiv };
 }
-
-#[cfg(test)]
-mod tests {
-    use super::Letters;
-    use crate::Duplicate;
-    use std::test::Fail;
-
-    #[test]
-    fn builds_a_text(rt: HostRuntime) -> Result<(), Fail> {
-        let alloc = rt.alloc();
-        let mut text = Letters::new(alloc);
-        assert!(rt; text.is_empty());
-        text.push_str("caf")?;
-        text.push('é')?;
-        assert_eq!(rt; text.as_str(), "café");
-        assert_eq!(rt; text.len(), 5);
-        assert_eq!(rt; text.get(3), Some(0xc3));
-        assert_eq!(rt; text.get(5), None);
-        assert!(rt; !text.is_empty());
-        Ok(())
-    }
-
-    #[test]
-    fn moves_and_copies_a_text(rt: HostRuntime) -> Result<(), Fail> {
-        let alloc = rt.alloc();
-        let text = Letters::from_text(alloc, "Ada")?;
-        assert_eq!(rt; text.as_slice(), [65, 100, 97].as_slice());
-        assert_eq!(rt; text.copy(alloc)?, text);
-        assert_ne!(rt; Letters::from_text(alloc, "Adam")?, text);
-        assert_eq!(rt; Letters::from_string(text.into_string()).as_str(), "Ada");
-        let bytes = [66, 111, 98].to_vec(alloc)?;
-        assert_eq!(rt; Letters::from_utf8(bytes).as_str(), "Bob");
-        Ok(())
-    }
-}
