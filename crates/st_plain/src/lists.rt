@@ -1,27 +1,19 @@
 //! Triples and entities, kept in order.
-ghost use Rattle.std.specs.Prelude.{◌≡◌, ◌≤◌, ◌==◌, ◌&&◌, length, not, filter, find, IfOk, OnOk, OnErr};
+ghost use Rattle.std.specs.Prelude.{◌≡◌, ◌≤◌, ◌==◌, ◌&&◌, ◌||◌, length, not, filter, find, IfOk, OnOk, OnErr};
 ghost use Rattle.std.specs.List.{position_or_len};
 ghost use Rattle.std.specs.Option.{option_copied};
 ghost use Rattle.std.specs.Vec.{vec_len, vec_capacity};
-ghost use Rattle.st_state.specs.State.{entity_before, same_entity, with_entity, is_at, triple_before, with_triple, value_at, values_at, turned, value_set};
-ghost use Rattle.st_values.specs.Order.{same_value};
+ghost use Rattle.st_values.specs.Order.{entity_before, same_entity, value_before, same_value};
+ghost use Rattle.st_state.specs.State.{with_entity, is_at, triple_before, with_triple, value_at, values_at, turned, value_set};
 
 use sqlite_items::Items;
 use st_state::Triple;
-use st_values::{Duplicate, Entities, EntityId, Value, Values, is_before, is_same};
+use st_values::{
+    Duplicate, Entities, EntityId, Value, Values, compare_entities, is_before, is_entity_before,
+    is_same, is_same_entity,
+};
 use std::alloc::{AllocError, Global};
-
-fn entity_before(a: EntityId, b: EntityId) -> bool
-    ensures { result ≡ entity_before a b }
-{
-    a.ty < b.ty || (a.ty == b.ty && a.serial < b.serial)
-}
-
-fn same_entity(a: EntityId, b: EntityId) -> bool
-    ensures { result ≡ same_entity a b }
-{
-    a.ty == b.ty && a.serial == b.serial
-}
+use std::cmp::Ordering;
 
 fn place_of_entity(entities: &[EntityId], entity: EntityId) -> usize
     ensures value { result ≡ position_or_len (λ other. not (entity_before other entity)) entities.now }
@@ -29,7 +21,7 @@ fn place_of_entity(entities: &[EntityId], entity: EntityId) -> usize
 {
     let mut place = 0;
     for other in entities {
-        if !entity_before(*other, entity) {
+        if !is_entity_before(*other, entity) {
             return place;
         }
         place += 1;
@@ -50,7 +42,19 @@ pub fn put_entity(entities: &mut Vec<EntityId>, entity: EntityId) -> Result<(), 
 fn is_at(attribute: u16, entity: EntityId, triple: &Triple) -> bool
     ensures { result ≡ is_at attribute entity triple.now }
 {
-    triple.attribute == attribute && same_entity(triple.entity, entity)
+    triple.attribute == attribute && is_same_entity(triple.entity, entity)
+}
+
+/// Whether the entity of a triple stands before that of another one, or its value where the two are the same.
+fn rest_before(a: &Triple, b: &Triple) -> bool
+    ensures { result ≡ (entity_before a.now.entity b.now.entity
+        || (same_entity a.now.entity b.now.entity && value_before a.now.value b.now.value)) }
+{
+    match compare_entities(a.entity, b.entity) {
+        Ordering::Less => true,
+        Ordering::Equal => is_before(&a.value, &b.value),
+        Ordering::Greater => false,
+    }
 }
 
 fn triple_before(a: &Triple, b: &Triple) -> bool
@@ -59,10 +63,7 @@ fn triple_before(a: &Triple, b: &Triple) -> bool
     if a.attribute != b.attribute {
         return a.attribute < b.attribute;
     }
-    if same_entity(a.entity, b.entity) {
-        return is_before(&a.value, &b.value);
-    }
-    entity_before(a.entity, b.entity)
+    rest_before(a, b)
 }
 
 fn place_of_triple(triples: &[Triple], triple: &Triple) -> usize

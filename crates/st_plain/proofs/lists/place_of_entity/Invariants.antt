@@ -1,6 +1,6 @@
 use Rattle.std.proofs.Common.{◌≡◌, ◌+◌, not, drop}
 use Rattle.std.specs.List.{position_or_len}
-use Rattle.st_state.specs.State.{entity_before}
+use Rattle.st_values.specs.Order.{entity_before}
 use Rattle.st_plain.proofs.lists.place_of_entity.Given as goal
 
 -- none so far stands behind, and the first that does is the first of those that are left
