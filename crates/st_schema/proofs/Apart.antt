@@ -10,13 +10,13 @@ use Rattle.std.proofs.lemmas.List.Elements.{All-head, All-tail}
 use Rattle.std.proofs.lemmas.List.Folds.{list_all-append, list_any-append}
 use Rattle.std.proofs.lemmas.Slice.Eq.{bytes_eq-Decides}
 use Rattle.st_values.specs.Arranged.{each_pair}
-use Rattle.st_values.proofs.Placing.{both, left, right, either, all-weaken}
+use Rattle.st_values.proofs.Tests.{both, left, right, either, all-weaken, all-two}
 use Rattle.st_lattice.specs.declared.attribute.Attribute.{Attribute}
 use Rattle.st_lattice.specs.declared.feature.Named.{Named}
 use Rattle.st_lattice.specs.Outline.{Outline, IsOrderly}
 use Rattle.st_lattice.specs.Lattice.{isa_within, isa, below, attributes_in}
 use Rattle.st_lattice.specs.Features.{own, inverse, named, features}
-use Rattle.st_lattice.specs.Plain.{IsPlain}
+use Rattle.st_lattice.specs.Consistent.{IsConsistent}
 use Rattle.st_schema.specs.declared.fault.SchemaFault.{SchemaFault}
 use Rattle.st_schema.specs.declared.fault.SchemaFault.TheVariants.{Repeated}
 use Rattle.st_schema.specs.declared.written.Setting.{Setting}
@@ -111,19 +111,13 @@ sets_all names number owner (t ∷ types) e =
 -- ---- pairs of a list
 
 module _ {X : Type 0} where
-  all_two : (p q r : X → Bool) → ((x : X) → p x ≡ true → q x ≡ true → r x ≡ true) → (xs : List X) → list_all p xs ≡ true → list_all q xs ≡ true → list_all r xs ≡ true
-  all_two p q r h [] a b = refl
-  all_two p q r h (x ∷ xs) a b =
-      both (r x) (list_all r xs) (h x (left (p x) (list_all p xs) a) (left (q x) (list_all q xs) b))
-      (all_two p q r h xs (right (p x) (list_all p xs) a) (right (q x) (list_all q xs) b))
-
   -- what each pair has and what any two elements have, each pair has together; xs are some of all
   pairs_with : (r s t : X → X → Bool) → ((x y : X) → r x y ≡ true → s x y ≡ true → t x y ≡ true) → (all xs : List X) → ((q : X → Bool) → list_all q all ≡ true → list_all q xs ≡ true) →
       each_pair r xs ≡ true → list_all (λ x. list_all (s x) all) xs ≡ true → each_pair t xs ≡ true
   pairs_with r s t h all [] sub e k = refl
   pairs_with r s t h all (x ∷ xs) sub e k =
       both (list_all (t x) xs) (each_pair t xs)
-      (all_two (r x) (s x) (t x) (h x) xs (left (list_all (r x) xs) (each_pair r xs) e)
+      (all-two (r x) (s x) (t x) xs (h x) (left (list_all (r x) xs) (each_pair r xs) e)
       (right (s x x) (list_all (s x) xs) (sub (s x) (left (list_all (s x) all) (list_all (λ y. list_all (s y) all) xs) k))))
       (pairs_with r s t h all xs (λ q a. right (q x) (list_all q xs) (sub q a)) (right (list_all (r x) xs) (each_pair r xs) e)
       (right (list_all (s x) all) (list_all (λ y. list_all (s y) all) xs) k))
@@ -328,8 +322,8 @@ module _ (schema : Outline) where
       names_inside ty parts.0 (first_none (ambiguous_at schema (features schema)) 0 (length schema.names) more.0 ty (omega arith) (omega (arith, inside))))
       (λ k. let past : length schema.names ≤ ty = grind (arith, nat_tests, k) in names_outside ty orderly past)
 
-pub resolved_plain : (w : Written) → written_fault w.types ≡ None → IsOrderly (resolved w) → schema_fault (resolved w) ≡ None → IsPlain (resolved w)
-resolved_plain w fits orderly right =
+pub resolved_consistent : (w : Written) → written_fault w.types ≡ None → IsOrderly (resolved w) → schema_fault (resolved w) ≡ None → IsConsistent (resolved w)
+resolved_consistent w fits orderly right =
     let names : List (List ℕ) = (resolved w).names in
     let one = option_or_none (too_many w.types) _ fits in
     let two = option_or_none (repeated_type w.types) _ one.1 in

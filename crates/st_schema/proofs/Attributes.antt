@@ -6,13 +6,14 @@ use Rattle.st_sexp.specs.declared.form.Form.{Form}
 use Rattle.st_sexp.specs.Views.{as_list}
 use Rattle.st_sexp.proofs.Pieces.{IsForm, AreForms, IsNamed, Heads, list_of, item_more, item_end, no_items, some_items, behind_none, forms_weaker, space_gap, behind_more}
 use Rattle.st_sexp.proofs.Pieces as piece
+use Rattle.st_sexp.proofs.Naming.{name_form, name_at-named}
+use Rattle.st_schema.specs.declared.fault.SchemaFault.TheVariants as fault
 use Rattle.st_schema.specs.declared.written.AttributeForm.{AttributeForm}
 use Rattle.st_schema.specs.declared.written.Choice.{Choice}
-use Rattle.st_schema.specs.Names.{is_name}
+use Rattle.st_sexp.specs.Names.{is_name}
 use Rattle.st_schema.specs.Written.{attribute_form, attribute_forms, value_type, names_at, choices_after}
 use Rattle.st_schema.specs.Resolved.{inverse_in, is_on, is_unique, is_no_nulls, is_index}
 use Rattle.st_schema.proofs.Text.{value_text, setting_items, kept_of, attribute_line}
-use Rattle.st_schema.proofs.Words.{name_form, name_at-named}
 use Rattle.st_schema.proofs.ValueTypes.{CanBeWritten, value_form}
 use Rattle.st_schema.proofs.Options.{ReadsOptions, IsInverse, options_form, kept_new, kept_on}
 use Rattle.st_schema.proofs.Same.{IsAttribute, AreAttributes}
@@ -38,7 +39,7 @@ Parts a = Heads (λ form. value_type form ≡ Ok (a.worded, a.many)) (ReadsOptio
 
 parts_are : (a : AttributeForm) (list head value : Form) (options : List Form) (choices : List Choice) → is_name a.name ≡ true → as_list list ≡ Some (head ∷ value ∷ options) → IsNamed a.name head → value_type value ≡ Ok (a.worded, a.many) → choices_after [] options ≡ Ok choices →
     attribute_form list ≡ Ok (record { name = a.name; worded = a.worded; many = a.many; choices = choices })
-parts_are a list head value options choices good is named valued chosen = rw (is, name_at-named a.name head good named, valued, chosen) refl
+parts_are a list head value options choices good is named valued chosen = rw (is, name_at-named fault.Form a.name head good named, valued, chosen) refl
 
 attribute_is : (a : AttributeForm) (list head : Form) (rest : List Form) → is_name a.name ≡ true → as_list list ≡ Some (head ∷ rest) → IsNamed a.name head → Parts a rest → ReadsAttribute a list
 attribute_is a list head rest good is named parts =
@@ -90,7 +91,7 @@ abbrev ReadsNames : List (List ℕ) → List Form → Type 0
 ReadsNames names forms = names_at forms ≡ Ok names
 
 names_one : (name : List ℕ) (names : List (List ℕ)) → is_name name ≡ true → (form : Form) (forms : List Form) → IsNamed name form → ReadsNames names forms → ReadsNames (name ∷ names) (form ∷ forms)
-names_one name names good form forms one more = rw (name_at-named name form good one, more) refl
+names_one name names good form forms one more = rw (name_at-named fault.Form name form good one, more) refl
 
 names_behind : (names : List (List ℕ)) (deep : ℕ) → AreNames names → AreForms (piece.behind 32 names) deep (ReadsNames names)
 names_behind [] deep good = behind_none 32 deep (ReadsNames []) refl

@@ -16,7 +16,8 @@ use Rattle.st_schema.specs.declared.written.Worded.TheVariants as worded
 use Rattle.st_schema.specs.declared.written.AttributeForm.{AttributeForm}
 use Rattle.st_schema.specs.declared.written.TypeForm.{TypeForm}
 use Rattle.st_schema.specs.declared.written.Written.{Written}
-use Rattle.st_schema.specs.Checks.{has, parent_fault, parents_fault, unknown_of, unknown_in, unknown_type}
+use Rattle.st_values.specs.Names.{has}
+use Rattle.st_schema.specs.Checks.{parent_fault, parents_fault, unknown_of, unknown_in, unknown_type}
 use Rattle.st_schema.specs.Resolved.{place_of, kind_of, inverse_in, is_on, is_unique, is_no_nulls, is_index, attribute_of_form, attributes_from, all_attributes, resolved}
 use Rattle.st_schema.specs.Canonical.{in_list, kind_text, type_text, inverse_items, option_items, attribute_text, own_attributes, type_line, canonical}
 use Rattle.st_schema.proofs.Text.{worded_text, value_text, setting_items, if_given, if_on, kept, kept_of, attribute_line, text_of}

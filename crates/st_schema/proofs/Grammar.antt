@@ -6,6 +6,7 @@ use Rattle.std.specs.Str.{bytes_eq}
 use Rattle.std.proofs.lemmas.Bool.{and_parts, leb-true}
 use Rattle.st_sexp.specs.declared.form.Form.{Form}
 use Rattle.st_sexp.specs.Views.{as_name, as_number}
+use Rattle.st_sexp.proofs.Steps.{step, given, passed, identifier_name, name_good, end_good}
 use Rattle.st_schema.specs.declared.fault.SchemaFault.{SchemaFault}
 use Rattle.st_schema.specs.declared.fault.SchemaFault.TheVariants as fault
 use Rattle.st_schema.specs.declared.written.Setting.{Setting}
@@ -16,42 +17,14 @@ use Rattle.st_schema.specs.declared.written.Worded.TheVariants as worded
 use Rattle.st_schema.specs.declared.written.AttributeForm.{AttributeForm}
 use Rattle.st_schema.specs.declared.written.TypeForm.{TypeForm}
 use Rattle.st_schema.specs.declared.written.Written.{Written}
-use Rattle.st_schema.specs.Names.{is_name}
-use Rattle.st_schema.specs.Written.{Reading, and_then, only_if, identifier, name_at, forms_at, next_at, end_of, size_of, size_at, sized_string, type_word, worded_at, single_type, set_type, type_at, value_type, truth, setting_of, is_given, new_choice, choice_at, choices_with, option_word, choices_after, last_attributes, attribute_parts, attribute_form, attribute_forms, names_at, type_parts, type_form, type_forms, schema_name, written, behind}
+use Rattle.st_sexp.specs.Names.{is_name}
+use Rattle.st_sexp.specs.Items.{and_then, only_if, identifier, name_at, forms_at, next_at, end_of, behind}
+use Rattle.st_schema.specs.Written.{Reading, size_of, size_at, sized_string, type_word, worded_at, single_type, set_type, type_at, value_type, truth, setting_of, is_given, new_choice, choice_at, choices_with, option_word, choices_after, last_attributes, attribute_parts, attribute_form, attribute_forms, names_at, type_parts, type_form, type_forms, schema_name, written}
 use Rattle.st_schema.specs.Resolved.{inverse_in}
 use Rattle.st_schema.proofs.ValueTypes.{CanBeWritten}
 use Rattle.st_schema.proofs.Options.{IsInverse}
 use Rattle.st_schema.proofs.Attributes.{IsGoodAttribute, AreGoodAttributes, AreNames}
 use Rattle.st_schema.proofs.Whole.{IsGoodType, AreGoodTypes, HasType, IsGood}
-
--- what was read before more was read with it
-pub record Step {A B : Type 0} (read : Reading A) (more : A → Reading B) (y : B) : Type 0 where
-  pub value : A
-  pub was : read ≡ Ok value
-  pub then : more value ≡ Ok y
-
-pub step : {A B : Type 0} (read : Reading A) (more : A → Reading B) (y : B) → and_then read more ≡ Ok y → Step read more y
-step (Ok x) more y is = record { value = x; was = refl; then = is }
-step (Err f) more y is = absurd (cc)
-
-given : {A : Type 0} (o : Option A) (f : SchemaFault) (y : A) → ok_or o f ≡ Ok y → o ≡ Some y
-given (Some x) f y is = cc
-given None f y is = absurd (cc)
-
-passed : {A : Type 0} (b : Bool) (x y : A) → only_if b x ≡ Some y → (b ≡ true) × (x ≡ y)
-passed true x y is = (refl, cc)
-passed false x y is = absurd (cc)
-
-identifier_name : (letters : Option (List ℕ)) (name : List ℕ) → option_and_then (λ word. only_if (is_name word) word) letters ≡ Some name → is_name name ≡ true
-identifier_name None name is = absurd (cc)
-identifier_name (Some word) name is = let both = passed (is_name word) word name is in subst (λ word. is_name word ≡ true) both.1 both.0
-
-name_good : (form : Form) (name : List ℕ) → name_at form ≡ Ok name → is_name name ≡ true
-name_good form name is = identifier_name (as_name form) name (given (identifier form) _ name is)
-
-end_good : {A : Type 0} (forms : List Form) (x y : A) → end_of forms x ≡ Ok y → x ≡ y
-end_good [] x y is = cc
-end_good (form ∷ forms) x y is = absurd (cc)
 
 -- types of values
 size_good : (number : Option ℤ) (n : ℕ) → size_of number ≡ Some n → (1 ≤ n) × (n ≤ 200)
@@ -64,10 +37,10 @@ size_good (Some (negsuc m)) n is = absurd (cc)
 
 sized_good : (place : ℕ) (parts : List Form) (w : Worded) → sized_string place parts ≡ Ok w → CanBeWritten w
 sized_good place parts w is =
-    let one = step (next_at place parts) (λ p. and_then (size_at (p.0)) (λ size. end_of (p.1) (worded.Text size))) w is in
-    let two = step (size_at one.value.0) (λ size. end_of (one.value.1) (worded.Text size)) w one.then in
+    let one = step (next_at fault.Form place parts) (λ p. and_then (size_at (p.0)) (λ size. end_of fault.Form (p.1) (worded.Text size))) w is in
+    let two = step (size_at one.value.0) (λ size. end_of fault.Form (one.value.1) (worded.Text size)) w one.then in
     let size = size_good (as_number one.value.0) two.value (given (size_of (as_number one.value.0)) _ two.value two.was) in
-    subst CanBeWritten (end_good one.value.1 (worded.Text two.value) w two.then) size
+    subst CanBeWritten (end_good fault.Form one.value.1 (worded.Text two.value) w two.then) size
 
 choose : (b : Bool) (x y : Option Worded) (w : Worded) → cond b x y ≡ Some w → (x ≡ Some w → CanBeWritten w) → (y ≡ Some w → CanBeWritten w) → CanBeWritten w
 choose true x y w is p q = p is
@@ -96,9 +69,9 @@ single_good form w is = worded_good form (behind (codes "string") form) w is
 
 set_good : (place : ℕ) (parts : List Form) (ty : Worded × Bool) → set_type place parts ≡ Ok ty → CanBeWritten (ty.0)
 set_good place parts ty is =
-    let one = step (next_at place parts) (λ p. and_then (single_type (p.0)) (λ w. end_of (p.1) (w, true))) ty is in
-    let two = step (single_type one.value.0) (λ w. end_of (one.value.1) (w, true)) ty one.then in
-    subst (λ (ty : Worded × Bool). CanBeWritten (ty.0)) (end_good one.value.1 (two.value, true) ty two.then) (single_good one.value.0 two.value two.was)
+    let one = step (next_at fault.Form place parts) (λ p. and_then (single_type (p.0)) (λ w. end_of fault.Form (p.1) (w, true))) ty is in
+    let two = step (single_type one.value.0) (λ w. end_of fault.Form (one.value.1) (w, true)) ty one.then in
+    subst (λ (ty : Worded × Bool). CanBeWritten (ty.0)) (end_good fault.Form one.value.1 (two.value, true) ty two.then) (single_good one.value.0 two.value two.was)
 
 type_good : (form : Form) (parts : Option (List Form)) (ty : Worded × Bool) → type_at form parts ≡ Ok ty → CanBeWritten (ty.0)
 type_good form (Some parts) ty is = set_good form.from parts ty is
@@ -180,20 +153,20 @@ inverse_is_name (c ∷ choices) good = inverse_step c.setting c.place choices go
 -- attributes
 parts_good : (place : ℕ) (parts : List Form) (a : AttributeForm) → attribute_parts place parts ≡ Ok a → IsGoodAttribute a
 parts_good place parts a is =
-    let one = step (next_at place parts) _ a is in
-    let two = step (name_at one.value.0) _ a one.then in
-    let three = step (next_at place one.value.1) _ a two.then in
+    let one = step (next_at fault.Form place parts) _ a is in
+    let two = step (name_at fault.Form one.value.0) _ a one.then in
+    let three = step (next_at fault.Form place one.value.1) _ a two.then in
     let four = step (value_type three.value.0) _ a three.then in
     let five = step (choices_after [] three.value.1) (λ choices. Ok (record { name = two.value; worded = four.value.0; many = four.value.1; choices = choices })) a four.then in
     let same : ◌≡◌ {A = AttributeForm} (record { name = two.value; worded = four.value.0; many = four.value.1; choices = five.value }) a = (let e = five.then in cc) in
     subst IsGoodAttribute same (record {
-      name = name_good one.value.0 two.value two.was;
+      name = name_good fault.Form one.value.0 two.value two.was;
       worded = value_good three.value.0 four.value four.was;
       inverse = inverse_is_name five.value (choices_good [] three.value.1 five.value tt five.was);
     })
 
 attribute_good : (form : Form) (a : AttributeForm) → attribute_form form ≡ Ok a → IsGoodAttribute a
-attribute_good form a is = let one = step (forms_at form) (λ parts. attribute_parts form.from parts) a is in parts_good form.from one.value a one.then
+attribute_good form a is = let one = step (forms_at fault.Form form) (λ parts. attribute_parts form.from parts) a is in parts_good form.from one.value a one.then
 
 attributes_good : (forms : List Form) (attributes : List AttributeForm) → attribute_forms forms ≡ Ok attributes → AreGoodAttributes attributes
 attributes_good [] attributes is = let same : [] ≡ attributes = cc in subst AreGoodAttributes same tt
@@ -206,30 +179,30 @@ attributes_good (form ∷ forms) attributes is =
 names_good : (forms : List Form) (names : List (List ℕ)) → names_at forms ≡ Ok names → AreNames names
 names_good [] names is = let same : [] ≡ names = cc in subst AreNames same tt
 names_good (form ∷ forms) names is =
-    let one = step (name_at form) (λ name. and_then (names_at forms) (λ more. Ok (name ∷ more))) names is in
+    let one = step (name_at fault.Form form) (λ name. and_then (names_at forms) (λ more. Ok (name ∷ more))) names is in
     let two = step (names_at forms) (λ more. Ok (one.value ∷ more)) names one.then in
     let same : one.value ∷ two.value ≡ names = (let e = two.then in cc) in
-    subst AreNames same (name_good form one.value one.was, names_good forms two.value two.was)
+    subst AreNames same (name_good fault.Form form one.value one.was, names_good forms two.value two.was)
 
 -- types
 last_good : (place : ℕ) (parts : List Form) (attributes : List AttributeForm) → last_attributes place parts ≡ Ok attributes → AreGoodAttributes attributes
 last_good place parts attributes is =
-    let one = step (next_at place parts) _ attributes is in
-    let two = step (forms_at one.value.0) _ attributes one.then in
-    let three = step (attribute_forms two.value) (λ attributes. end_of (one.value.1) attributes) attributes two.then in
-    subst AreGoodAttributes (end_good one.value.1 three.value attributes three.then) (attributes_good two.value three.value three.was)
+    let one = step (next_at fault.Form place parts) _ attributes is in
+    let two = step (forms_at fault.Form one.value.0) _ attributes one.then in
+    let three = step (attribute_forms two.value) (λ attributes. end_of fault.Form (one.value.1) attributes) attributes two.then in
+    subst AreGoodAttributes (end_good fault.Form one.value.1 three.value attributes three.then) (attributes_good two.value three.value three.was)
 
 type_parts_good : (place : ℕ) (parts : List Form) (t : TypeForm) → type_parts place parts ≡ Ok t → IsGoodType t
 type_parts_good place parts t is =
-    let one = step (next_at place parts) _ t is in
-    let two = step (name_at one.value.0) _ t one.then in
-    let three = step (next_at place one.value.1) _ t two.then in
-    let four = step (forms_at three.value.0) _ t three.then in
+    let one = step (next_at fault.Form place parts) _ t is in
+    let two = step (name_at fault.Form one.value.0) _ t one.then in
+    let three = step (next_at fault.Form place one.value.1) _ t two.then in
+    let four = step (forms_at fault.Form three.value.0) _ t three.then in
     let five = step (names_at four.value) _ t four.then in
     let six = step (last_attributes place three.value.1) (λ attributes. Ok (record { name = two.value; parents = five.value; attributes = attributes })) t five.then in
     let same : ◌≡◌ {A = TypeForm} (record { name = two.value; parents = five.value; attributes = six.value }) t = (let e = six.then in cc) in
     subst IsGoodType same (record {
-      name = name_good one.value.0 two.value two.was;
+      name = name_good fault.Form one.value.0 two.value two.was;
       parents = names_good four.value five.value five.was;
       attributes = last_good place three.value.1 six.value six.was;
     })
@@ -254,9 +227,9 @@ has_type form forms types is =
 
 schema_name_good : (place : ℕ) (parts : List Form) (name : List ℕ) → schema_name place parts ≡ Ok name → is_name name ≡ true
 schema_name_good place parts name is =
-    let one = step (next_at place parts) (λ p. and_then (name_at (p.0)) (λ name. end_of (p.1) name)) name is in
-    let two = step (name_at one.value.0) (λ name. end_of (one.value.1) name) name one.then in
-    subst (λ name. is_name name ≡ true) (end_good one.value.1 two.value name two.then) (name_good one.value.0 two.value two.was)
+    let one = step (next_at fault.Form place parts) (λ p. and_then (name_at fault.Form (p.0)) (λ name. end_of fault.Form (p.1) name)) name is in
+    let two = step (name_at fault.Form one.value.0) (λ name. end_of fault.Form (one.value.1) name) name one.then in
+    subst (λ name. is_name name ≡ true) (end_good fault.Form one.value.1 two.value name two.then) (name_good fault.Form one.value.0 two.value two.was)
 
 -- where the definition and one type stand, all is good that is read
 front_good : (front : Option (List Form)) (definition ty : Form) (types : List Form) (w : Written) →

@@ -1,5 +1,4 @@
 mod Text
-mod Words
 mod ValueTypes
 mod Options
 mod Same
@@ -18,4 +17,4 @@ mod Orderly
 mod Printing
 mod Memoryless
 mod Apart
-mod Read
+mod Known

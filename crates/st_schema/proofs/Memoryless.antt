@@ -16,7 +16,9 @@ use Rattle.st_schema.specs.declared.written.Worded.{Worded}
 use Rattle.st_schema.specs.declared.written.Worded.TheVariants as worded
 use Rattle.st_schema.specs.declared.written.AttributeForm.{AttributeForm}
 use Rattle.st_schema.specs.declared.written.TypeForm.{TypeForm}
+use Rattle.st_sexp.specs.Items as items
 use Rattle.st_schema.specs.Written as grammar
+use Rattle.st_values.specs.Names.{has, first_repeated}
 use Rattle.st_schema.specs.Checks as checks
 use Rattle.st_schema.specs.Resolved.{resolved}
 use Rattle.st_schema.specs.Meaning as meaning
@@ -35,7 +37,7 @@ form_due place e = cc e
 option_due : (place : ℕ) → IsDue (fault.BadOption place)
 option_due place e = cc e
 
-after : {A B : Type 0} (r : grammar.Reading A) (more : A → grammar.Reading B) → NoWant r → ((x : A) → NoWant (more x)) → NoWant (grammar.and_then r more)
+after : {A B : Type 0} (r : grammar.Reading A) (more : A → grammar.Reading B) → NoWant r → ((x : A) → NoWant (more x)) → NoWant (items.and_then r more)
 after (Ok x) more p q = q x
 after (Err f) more p q = p
 
@@ -43,16 +45,16 @@ given : {A : Type 0} (o : Option A) (f : SchemaFault) → IsDue f → NoWant (ok
 given (Some x) f h = tt
 given None f h = h
 
-name_at : (form : Form) → NoWant (grammar.name_at form)
-name_at form = given (grammar.identifier form) (fault.Form form.from) (form_due form.from)
+name_at : (form : Form) → NoWant (items.name_at fault.Form form)
+name_at form = given (items.identifier form) (fault.Form form.from) (form_due form.from)
 
-forms_at : (form : Form) → NoWant (grammar.forms_at form)
+forms_at : (form : Form) → NoWant (items.forms_at fault.Form form)
 forms_at form = given (as_list form) (fault.Form form.from) (form_due form.from)
 
-next_at : (place : ℕ) (forms : List Form) → NoWant (grammar.next_at place forms)
+next_at : (place : ℕ) (forms : List Form) → NoWant (items.next_at fault.Form place forms)
 next_at place forms = given (as_front forms) (fault.Form place) (form_due place)
 
-end_of : {A : Type 0} (forms : List Form) (x : A) → NoWant (grammar.end_of forms x)
+end_of : {A : Type 0} (forms : List Form) (x : A) → NoWant (items.end_of fault.Form forms x)
 end_of [] x = tt
 end_of (form ∷ forms) x = form_due form.from
 
@@ -67,7 +69,7 @@ worded_at form (Some parts) = sized_string form.from parts
 worded_at form None = given (option_and_then grammar.type_word (as_name form)) (fault.Form form.from) (form_due form.from)
 
 single_type : (form : Form) → NoWant (grammar.single_type form)
-single_type form = worded_at form (grammar.behind (codes "string") form)
+single_type form = worded_at form (items.behind (codes "string") form)
 
 set_type : (place : ℕ) (parts : List Form) → NoWant (grammar.set_type place parts)
 set_type place parts = after _ _ (next_at place parts) (λ p. after _ _ (single_type (p.0)) (λ w. end_of (p.1) (w, true)))
@@ -77,7 +79,7 @@ type_at form (Some parts) = set_type form.from parts
 type_at form None = after _ _ (single_type form) (λ w. tt)
 
 value_type : (form : Form) → NoWant (grammar.value_type form)
-value_type form = type_at form (grammar.behind (codes "set-of") form)
+value_type form = type_at form (items.behind (codes "set-of") form)
 
 option_word : (form : Form) → NoWant (grammar.option_word form)
 option_word form = given (as_name form) (fault.Form form.from) (form_due form.from)
@@ -121,7 +123,7 @@ type_parts place parts =
 
 type_form : (form : Form) → NoWant (grammar.type_form form)
 type_form form =
-    after _ _ (given (grammar.behind (codes "define-entity-type") form) (fault.Form form.from) (form_due form.from)) (λ parts. type_parts form.from parts)
+    after _ _ (given (items.behind (codes "define-entity-type") form) (fault.Form form.from) (form_due form.from)) (λ parts. type_parts form.from parts)
 
 type_forms : (forms : List Form) → NoWant (grammar.type_forms forms)
 type_forms [] = tt
@@ -161,8 +163,8 @@ many_due types =
 parent_due : (earlier before parents : List (List ℕ)) → NoneWants (checks.parent_fault earlier before parents)
 parent_due earlier before [] = tt
 parent_due earlier before (parent ∷ parents) =
-    either (not (checks.has earlier parent)) _ _ (λ e. cc e)
-    (either (checks.has before parent) _ _ (repeated_due parent) (parent_due earlier (before ++ parent ∷ []) parents))
+    either (not (has earlier parent)) _ _ (λ e. cc e)
+    (either (has before parent) _ _ (repeated_due parent) (parent_due earlier (before ++ parent ∷ []) parents))
 
 parents_due : (earlier : List (List ℕ)) (types : List TypeForm) → NoneWants (checks.parents_fault earlier types)
 parents_due earlier [] = tt
@@ -172,7 +174,7 @@ unknown_of : (names : List (List ℕ)) (w : Worded) → NoneWants (checks.unknow
 unknown_of names worded.Int = tt
 unknown_of names worded.Bool = tt
 unknown_of names (worded.Text size) = tt
-unknown_of names (worded.Entity name) = either (checks.has names name) _ _ tt (λ e. cc e)
+unknown_of names (worded.Entity name) = either (has names name) _ _ tt (λ e. cc e)
 
 unknown_in : (names : List (List ℕ)) (attributes : List AttributeForm) → NoneWants (checks.unknown_in names attributes)
 unknown_in names [] = tt
@@ -196,7 +198,7 @@ bad_option (t ∷ types) = first _ _ (choices_in t.attributes) (bad_option types
 
 written_due : (types : List TypeForm) → NoneWants (checks.written_fault types)
 written_due types =
-    first _ _ (many_due types) (first _ _ (made fault.Repeated (checks.first_repeated [] (map (λ t. t.name) types)) repeated_due)
+    first _ _ (many_due types) (first _ _ (made fault.Repeated (first_repeated [] (map (λ t. t.name) types)) repeated_due)
     (first _ _ (parents_due [] types) (first _ _ (unknown_type (map (λ t. t.name) types) types) (bad_option types))))
 
 ambiguous_due : (schema : Outline) (fs : List Named) (ty : ℕ) → NoneWants (meaning.ambiguous_at schema fs ty)
@@ -216,7 +218,7 @@ schema_due schema =
     (first _ _ (first_due (meaning.ambiguous_at schema (features schema)) (below (length schema.names)) (ambiguous_due schema (features schema)))
     (first_due (meaning.wide_at schema) (below (length schema.names)) (wide_due schema)))
 
-unless_due : {A : Type 0} (o : Option SchemaFault) (x : A) → NoneWants o → NoWant (meaning.unless o x)
+unless_due : {A : Type 0} (o : Option SchemaFault) (x : A) → NoneWants o → NoWant (checks.unless o x)
 unless_due None x h = tt
 unless_due (Some f) x h = h
 

@@ -8,13 +8,13 @@ use Rattle.st_token.proofs.Fronts.{is_small_word}
 use Rattle.st_sexp.specs.declared.form.Form.{Form}
 use Rattle.st_sexp.proofs.Pieces.{IsForm, AreForms, IsNamed, Heads, behind_none, forms_weaker, word_form, item_more}
 use Rattle.st_sexp.proofs.Pieces as piece
+use Rattle.st_sexp.proofs.Naming.{is_false, name_form}
 use Rattle.st_schema.specs.declared.written.Setting.{Setting}
 use Rattle.st_schema.specs.declared.written.Setting.TheVariants as setting
 use Rattle.st_schema.specs.declared.written.Choice.{Choice}
-use Rattle.st_schema.specs.Names.{is_name}
+use Rattle.st_sexp.specs.Names.{is_name}
 use Rattle.st_schema.specs.Written.{setting_of, new_choice, word_of, is_given, choices_after}
 use Rattle.st_schema.proofs.Text.{settings, setting_value, setting_items, if_given, if_on, kept}
-use Rattle.st_schema.proofs.Words.{is_false, name_form}
 
 -- an option that is on, or an inverse with a name
 abbrev pub IsOn : Setting → Type 0

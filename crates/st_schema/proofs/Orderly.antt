@@ -15,7 +15,8 @@ use Rattle.st_schema.specs.declared.written.Worded.TheVariants as worded
 use Rattle.st_schema.specs.declared.written.AttributeForm.{AttributeForm}
 use Rattle.st_schema.specs.declared.written.TypeForm.{TypeForm}
 use Rattle.st_schema.specs.declared.written.Written.{Written}
-use Rattle.st_schema.specs.Checks.{has, attribute_count, too_many, repeated_type, parent_fault, parents_fault, unknown_of, unknown_in, unknown_type, written_fault}
+use Rattle.st_values.specs.Names.{has}
+use Rattle.st_schema.specs.Checks.{attribute_count, too_many, repeated_type, parent_fault, parents_fault, unknown_of, unknown_in, unknown_type, written_fault}
 use Rattle.st_schema.specs.Resolved.{place_of, kind_of, attribute_of_form, attributes_from, all_attributes, resolved}
 
 abbrev names_in : List TypeForm → List (List ℕ)

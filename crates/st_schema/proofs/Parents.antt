@@ -8,7 +8,8 @@ use Rattle.std.proofs.lemmas.Slice.Eq.{bytes_eq-Decides}
 use Rattle.st_schema.specs.declared.fault.SchemaFault.{SchemaFault}
 use Rattle.st_schema.specs.declared.fault.SchemaFault.TheVariants.{UnknownParent, Repeated}
 use Rattle.st_schema.specs.declared.written.TypeForm.{TypeForm}
-use Rattle.st_schema.specs.Checks.{has, parent_fault, parents_fault}
+use Rattle.st_values.specs.Names.{has}
+use Rattle.st_schema.specs.Checks.{parent_fault, parents_fault}
 use Rattle.st_schema.proofs.Content.{option_or_none}
 
 -- each of these names is among some

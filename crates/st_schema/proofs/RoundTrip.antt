@@ -2,18 +2,20 @@
 use Rattle.std.proofs.Common.{◌≡◌, ◌≤◌, length, List, [], ◌∷◌, ◌++◌, Option, Some, None, Ok, refl, ap, sym, ◌∙◌, subst}
 use Rattle.st_sexp.specs.declared.form.Form.{Form}
 use Rattle.st_sexp.specs.Reading.{Due}
+use Rattle.st_sexp.proofs.Steps.{step}
 use Rattle.st_lattice.specs.Outline.{Outline}
 use Rattle.st_schema.specs.declared.fault.SchemaFault.{SchemaFault}
 use Rattle.st_schema.specs.declared.written.Written.{Written}
-use Rattle.st_schema.specs.Written.{and_then, written}
-use Rattle.st_schema.specs.Checks.{written_fault}
+use Rattle.st_sexp.specs.Items.{and_then}
+use Rattle.st_schema.specs.Written.{written}
+use Rattle.st_schema.specs.Checks.{unless, written_fault}
 use Rattle.st_schema.specs.Resolved.{resolved}
-use Rattle.st_schema.specs.Meaning.{schema_of, schema_fault, unless}
+use Rattle.st_schema.specs.Meaning.{schema_of, schema_fault}
 use Rattle.st_schema.specs.Canonical.{canonical}
 use Rattle.st_schema.proofs.Text.{text_of}
 use Rattle.st_schema.proofs.Whole.{ReadsWritten, whole_reads}
 use Rattle.st_schema.proofs.Content.{no_fault, same_fault, same_resolved}
-use Rattle.st_schema.proofs.Grammar.{step, written_good}
+use Rattle.st_schema.proofs.Grammar.{written_good}
 use Rattle.st_schema.proofs.Canon.{canonical-resolved}
 use Rattle.st_schema.proofs.Size.{text_short}
 

@@ -14,7 +14,7 @@ use Rattle.st_schema.specs.declared.written.Worded.TheVariants as worded
 use Rattle.st_schema.specs.declared.written.AttributeForm.{AttributeForm}
 use Rattle.st_schema.specs.declared.written.TypeForm.{TypeForm}
 use Rattle.st_schema.specs.declared.written.Written.{Written}
-use Rattle.st_schema.specs.Names.{is_name}
+use Rattle.st_sexp.specs.Names.{is_name}
 use Rattle.st_schema.specs.Checks.{attribute_count}
 use Rattle.st_schema.specs.Resolved.{inverse_in, is_on, is_unique, is_no_nulls, is_index}
 use Rattle.st_schema.specs.Canonical.{in_list}

@@ -2,20 +2,33 @@
 use Rattle.std.proofs.Common.{◌≡◌, ℕ, suc, ◌<◌, ◌≤◌, ◌^◌, Bool, true, false, List, [], ◌∷◌, length, Some, None, Ok, pos, refl, ap, ◌∙◌, subst, arith}
 use Rattle.std.specs.Prelude.{codes}
 use Rattle.std.specs.Fmt.{decimal}
-use Rattle.std.specs.Str.{all_ascii_digits}
+use Rattle.std.specs.Str.{all_ascii_digits, bytes_eq}
 use Rattle.std.specs.Str.Parse.{digits_value}
-use Rattle.std.proofs.lemmas.Bool.{le-leb}
+use Rattle.std.proofs.lemmas.Bool.{le-leb, or_parts, cond-false}
 use Rattle.std.proofs.lemmas.Fmt.{decimal_is_IsNumeral, digits_decimal}
 use Rattle.std.proofs.lemmas.Str.Parse.{IsNumeralModel, numerals_by_value, tells_all_ascii_digits}
 use Rattle.st_sexp.specs.declared.form.Form.{Form}
 use Rattle.st_sexp.specs.Views.{as_number, as_list}
+use Rattle.st_sexp.proofs.Naming.{name_form, not_reserved, behind-head, behind-word}
 use Rattle.st_sexp.proofs.Pieces.{IsForm, IsNamed, Heads, form_weaker, word_form, digits_form, list_of, item_more, item_end}
 use Rattle.st_schema.specs.declared.written.Worded.{Worded}
 use Rattle.st_schema.specs.declared.written.Worded.TheVariants as worded
-use Rattle.st_schema.specs.Names.{is_name}
-use Rattle.st_schema.specs.Written.{single_type, sized_string, set_type, worded_at, type_at, value_type, behind}
+use Rattle.st_sexp.specs.Names.{is_name}
+use Rattle.st_sexp.specs.Items.{only_if, behind}
+use Rattle.st_schema.specs.Written.{type_word, single_type, sized_string, set_type, worded_at, type_at, value_type}
 use Rattle.st_schema.proofs.Text.{worded_text, value_text}
-use Rattle.st_schema.proofs.Words.{name_form, type_word-name, behind-head, behind-word}
+
+-- a name is read as the type of this name
+type_word-name : (name : List ℕ) → is_name name ≡ true → type_word name ≡ Some (worded.Entity name)
+type_word-name name h =
+    let six = or_parts _ _ (not_reserved name h) in
+    let five = or_parts _ _ six.0 in
+    let four = or_parts _ _ five.0 in
+    let three = or_parts _ _ four.0 in
+    let two = or_parts _ _ three.0 in
+    let one = or_parts _ _ two.0 in
+    cond-false (bytes_eq name (codes "integer")) _ _ one.0 ∙ cond-false (bytes_eq name (codes "boolean")) _ _ one.1 ∙ cond-false (bytes_eq name (codes "string")) _ _ two.1
+    ∙ ap (λ (b : Bool). only_if b (worded.Entity name)) h
 
 -- a type that a text can write: a size from 1 to 200, a name
 abbrev pub CanBeWritten : Worded → Type 0

@@ -6,14 +6,16 @@ use Rattle.st_sexp.specs.Views.{as_list}
 use Rattle.st_sexp.specs.Reading.{Due}
 use Rattle.st_sexp.proofs.Pieces.{IsForm, AreForms, IsNamed, Heads, word_form, list_form, list_of, item_more, item_end, behind_none, behind_more, first_more, line_gap, whole_text}
 use Rattle.st_sexp.proofs.Pieces as piece
+use Rattle.st_sexp.proofs.Naming.{name_form, name_at-named, behind-head}
+use Rattle.st_schema.specs.declared.fault.SchemaFault.TheVariants as fault
 use Rattle.st_schema.specs.declared.written.AttributeForm.{AttributeForm}
 use Rattle.st_schema.specs.declared.written.TypeForm.{TypeForm}
 use Rattle.st_schema.specs.declared.written.Written.{Written}
-use Rattle.st_schema.specs.Names.{is_name}
-use Rattle.st_schema.specs.Written.{behind, names_at, attribute_forms, type_form, type_forms, schema_name, written}
+use Rattle.st_sexp.specs.Names.{is_name}
+use Rattle.st_sexp.specs.Items.{behind}
+use Rattle.st_schema.specs.Written.{names_at, attribute_forms, type_form, type_forms, schema_name, written}
 use Rattle.st_schema.specs.Canonical.{in_list}
 use Rattle.st_schema.proofs.Text.{attribute_line, type_text, text_of}
-use Rattle.st_schema.proofs.Words.{name_form, name_at-named, behind-head}
 use Rattle.st_schema.proofs.Attributes.{AreGoodAttributes, AreNames, ReadsAttributes, attributes_reads, names_reads}
 use Rattle.st_schema.proofs.Same.{IsType, AreTypes, IsWritten}
 
@@ -63,7 +65,7 @@ NamePart t = Heads (IsNamed t.name) (ParentsPart t)
 type_parts_are : (t : TypeForm) (list head name parents attributes : Form) (names forms : List Form) (again : List AttributeForm) → is_name t.name ≡ true → as_list list ≡ Some (head ∷ name ∷ parents ∷ attributes ∷ []) → IsNamed (codes "define-entity-type") head → IsNamed t.name name →
     as_list parents ≡ Some names → names_at names ≡ Ok t.parents → as_list attributes ≡ Some forms → attribute_forms forms ≡ Ok again → type_form list ≡ Ok (record { name = t.name; parents = t.parents; attributes = again })
 type_parts_are t list head name parents attributes names forms again good is word named parents_list parents_read attributes_list attributes_read =
-    rw (is, word.name, name_at-named t.name name good named, parents_list, parents_read, attributes_list, attributes_read) refl
+    rw (is, word.name, name_at-named fault.Form t.name name good named, parents_list, parents_read, attributes_list, attributes_read) refl
 
 type_is : (t : TypeForm) (list head : Form) (rest : List Form) → is_name t.name ≡ true → as_list list ≡ Some (head ∷ rest) → IsNamed (codes "define-entity-type") head → NamePart t rest → ReadsType t list
 type_is t list head rest good is word name =
@@ -106,7 +108,7 @@ record IsDefinition (name : List ℕ) (form : Form) : Type 0 where
   pub named : schema_name form.from parts ≡ Ok name
 
 name_alone : (name : List ℕ) (place : ℕ) (form : Form) → is_name name ≡ true → IsNamed name form → schema_name place (form ∷ []) ≡ Ok name
-name_alone name place form good named = rw (name_at-named name form good named) refl
+name_alone name place form good named = rw (name_at-named fault.Form name form good named) refl
 
 definition_is : (name : List ℕ) (list head : Form) (rest : List Form) → is_name name ≡ true → as_list list ≡ Some (head ∷ rest) → IsNamed (codes "define-schema") head → Heads (IsNamed name) (λ forms. forms ≡ []) rest → IsDefinition name list
 definition_is name list head rest good is word found =

@@ -1,8 +1,7 @@
 -- What is checked of a written schema once its forms fit: each check names the first fault in text order.
-use Rattle.std.specs.Prelude.{ℕ, ◌+◌, min, Bool, true, false, not, nat_lt, if◌then◌else◌, List, [], ◌∷◌, ◌++◌, length, map, Option, Some, None}
-use Rattle.std.specs.List.{list_any}
+use Rattle.std.specs.Prelude.{ℕ, ◌+◌, min, Bool, true, false, not, nat_lt, if◌then◌else◌, List, [], ◌∷◌, ◌++◌, length, map, Option, Some, None, Ok, Err}
 use Rattle.std.specs.Option.{option_or, option_map}
-use Rattle.std.specs.Str.{bytes_eq}
+use Rattle.st_values.specs.Names.{has, first_repeated}
 use Rattle.st_schema.specs.declared.fault.Counted.TheVariants.{Types, Attributes}
 use Rattle.st_schema.specs.declared.fault.SchemaFault.{SchemaFault}
 use Rattle.st_schema.specs.declared.fault.SchemaFault.TheVariants.{Repeated, UnknownParent, UnknownType, TooMany, BadOption}
@@ -13,10 +12,12 @@ use Rattle.st_schema.specs.declared.written.Worded.{Worded}
 use Rattle.st_schema.specs.declared.written.Worded.TheVariants as worded
 use Rattle.st_schema.specs.declared.written.AttributeForm.{AttributeForm}
 use Rattle.st_schema.specs.declared.written.TypeForm.{TypeForm}
+use Rattle.st_schema.specs.Written.{Reading}
 
--- whether a name is among some
-abbrev pub has : List (List ℕ) → List ℕ → Bool
-has names name = list_any (λ other. bytes_eq other name) names
+-- a value where there is no fault
+abbrev pub unless : {A : Type 0} → Option SchemaFault → A → Reading A
+unless None x = Ok x
+unless (Some fault) x = Err fault
 
 -- how many attributes are written
 abbrev pub attribute_count : List TypeForm → ℕ
@@ -32,11 +33,6 @@ abbrev pub too_many : List TypeForm → Option SchemaFault
 too_many types =
     if nat_lt 64 (length types) then Some (TooMany Types (counted (length types)))
     else (if nat_lt 256 (attribute_count types) then Some (TooMany Attributes (counted (attribute_count types))) else None)
-
--- the first name that stands among those before it
-abbrev pub first_repeated : List (List ℕ) → List (List ℕ) → Option (List ℕ)
-first_repeated before [] = None
-first_repeated before (name ∷ names) = if has before name then Some name else first_repeated (before ++ name ∷ []) names
 
 -- the names of types differ
 abbrev pub repeated_type : List TypeForm → Option SchemaFault

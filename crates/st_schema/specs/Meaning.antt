@@ -1,20 +1,21 @@
 -- The schema that forms are, or the first fault in them.
-use Rattle.std.specs.Prelude.{◌≡◌, ℕ, Bool, true, not, ◌&&◌, ◌==◌, nat_lt, if◌then◌else◌, List, [], ◌∷◌, ◌++◌, length, Option, Some, None, Ok, Err, ⊤}
+use Rattle.std.specs.Prelude.{ℕ, Bool, true, not, ◌&&◌, ◌==◌, nat_lt, if◌then◌else◌, List, [], ◌∷◌, ◌++◌, length, Option, Some, None}
 use Rattle.std.specs.List.{list_any}
 use Rattle.std.specs.Option.{option_or, option_map}
 use Rattle.std.specs.Str.{bytes_eq}
 use Rattle.std.specs.Ordering.{nat_cmp, is_lt}
 use Rattle.std.specs.Cmp.Lexicographic.{slice_cmp}
 use Rattle.st_sexp.specs.declared.form.Form.{Form}
+use Rattle.st_sexp.specs.Items.{and_then}
 use Rattle.st_lattice.specs.declared.feature.Named.{Named}
 use Rattle.st_lattice.specs.Outline.{Outline, type_name}
 use Rattle.st_lattice.specs.Lattice.{isa, below}
 use Rattle.st_lattice.specs.Features.{features}
 use Rattle.st_lattice.specs.Stores.{row_width}
 use Rattle.st_schema.specs.declared.fault.SchemaFault.{SchemaFault}
-use Rattle.st_schema.specs.declared.fault.SchemaFault.TheVariants.{Repeated, AmbiguousName, RowTooWide, Memory}
-use Rattle.st_schema.specs.Written.{Reading, and_then, written}
-use Rattle.st_schema.specs.Checks.{written_fault}
+use Rattle.st_schema.specs.declared.fault.SchemaFault.TheVariants.{Repeated, AmbiguousName, RowTooWide}
+use Rattle.st_schema.specs.Written.{Reading, written}
+use Rattle.st_schema.specs.Checks.{unless, written_fault}
 use Rattle.st_schema.specs.Resolved.{resolved}
 
 -- whether two features are the same type's, with one name
@@ -70,17 +71,7 @@ schema_fault schema =
     let types = below (length schema.names) in
     option_or (repeated_feature schema) (option_or (first_of (ambiguous_at schema (features schema)) types) (first_of (wide_at schema) types))
 
--- a value where there is no fault
-abbrev pub unless : {A : Type 0} → Option SchemaFault → A → Reading A
-unless None x = Ok x
-unless (Some fault) x = Err fault
-
 -- the schema of forms, or their first fault: their grammar, then the checks in their order
 abbrev pub schema_of : List Form → Reading Outline
 schema_of forms =
     and_then (written forms) (λ w. and_then (unless (written_fault w.types) (resolved w)) (λ schema. unless (schema_fault schema) schema))
-
--- The answer is the one that is due; want of memory may come at any forms.
-abbrev pub Answers : {A : Type 0} → Reading A → Reading A → Type 0
-Answers (Err Memory) due = ⊤
-Answers answer due = answer ≡ due

@@ -1,11 +1,13 @@
--- How the forms of a schema's text are written: the grammar, with the place of what does not fit. One pass, in text
--- order: a form that is too much misfits by itself, and where one is missing its list does.
+-- How the forms of a schema's text are written: the grammar, with the place of what does not fit, in one pass in text order.
+-- What stands at a place and does not fit is `fault.Form` of it.
 use Rattle.std.specs.Prelude.{ℕ, ℤ, pos, Bool, true, false, ◌&&◌, nat_le, if◌then◌else◌, List, [], ◌∷◌, ◌++◌, Option, Some, None, Result, Ok, Err, codes}
 use Rattle.std.specs.List.{list_any}
 use Rattle.std.specs.Option.{option_and_then, option_map, ok_or}
 use Rattle.std.specs.Str.{bytes_eq}
 use Rattle.st_sexp.specs.declared.form.Form.{Form}
-use Rattle.st_sexp.specs.Views.{as_name, as_number, as_list, as_front, is_word}
+use Rattle.st_sexp.specs.Views.{as_name, as_number, is_word}
+use Rattle.st_sexp.specs.Names.{is_name}
+use Rattle.st_sexp.specs.Items.{and_then, only_if, identifier, behind, name_at, forms_at, next_at, end_of}
 use Rattle.st_schema.specs.declared.fault.SchemaFault.{SchemaFault}
 use Rattle.st_schema.specs.declared.fault.SchemaFault.TheVariants as fault
 use Rattle.st_schema.specs.declared.written.Setting.{Setting}
@@ -16,53 +18,15 @@ use Rattle.st_schema.specs.declared.written.Worded.TheVariants as worded
 use Rattle.st_schema.specs.declared.written.AttributeForm.{AttributeForm}
 use Rattle.st_schema.specs.declared.written.TypeForm.{TypeForm}
 use Rattle.st_schema.specs.declared.written.Written.{Written}
-use Rattle.st_schema.specs.Names.{is_name}
 
 -- what is read of something, or a fault
 abbrev pub Reading : Type 0 → Type 0
 Reading A = Result A SchemaFault
 
--- something is read, and then more with it; the first fault ends it
-abbrev pub and_then : {A B : Type 0} → Reading A → (A → Reading B) → Reading B
-and_then (Ok x) more = more x
-and_then (Err fault) more = Err fault
-
--- a form that does not fit
-abbrev pub misfit : {A : Type 0} → ℕ → Reading A
-misfit place = Err (fault.Form place)
-
--- a value, where a test of it holds
-abbrev pub only_if : {A : Type 0} → Bool → A → Option A
-only_if true x = Some x
-only_if false x = None
-
--- the letters of a form that is a name of the schema's
-abbrev pub identifier : Form → Option (List ℕ)
-identifier form = option_and_then (λ word. only_if (is_name word) word) (as_name form)
-
-abbrev pub name_at : Form → Reading (List ℕ)
-name_at form = ok_or (identifier form) (fault.Form form.from)
-
--- the forms of a list
-abbrev pub forms_at : Form → Reading (List Form)
-forms_at form = ok_or (as_list form) (fault.Form form.from)
-
--- the next of the forms of a list, which begins at a place, and those behind it
-abbrev pub next_at : ℕ → List Form → Reading (Form × List Form)
-next_at place forms = ok_or (as_front forms) (fault.Form place)
-
--- the end of a list: a form too much misfits
-abbrev pub end_of : {A : Type 0} → List Form → A → Reading A
-end_of [] x = Ok x
-end_of (form ∷ forms) x = misfit form.from
-
--- the forms behind the head of a list, where this word is its head
-abbrev pub behind_word : List ℕ → Option (Form × List Form) → Option (List Form)
-behind_word word None = None
-behind_word word (Some parts) = only_if (is_word (parts.0) word) (parts.1)
-
-abbrev pub behind : List ℕ → Form → Option (List Form)
-behind word form = behind_word word (option_and_then as_front (as_list form))
+-- what a fault tells of the forms; want of memory tells nothing
+abbrev pub told : SchemaFault → Option SchemaFault
+told fault.Memory = None
+told f = Some f
 
 -- (string N), N from 1 to 200
 abbrev pub size_of : Option ℤ → Option ℕ
@@ -73,7 +37,7 @@ abbrev pub size_at : Form → Reading ℕ
 size_at form = ok_or (size_of (as_number form)) (fault.Form form.from)
 
 abbrev pub sized_string : ℕ → List Form → Reading Worded
-sized_string place parts = and_then (next_at place parts) (λ p. and_then (size_at (p.0)) (λ size. end_of (p.1) (worded.Text size)))
+sized_string place parts = and_then (next_at fault.Form place parts) (λ p. and_then (size_at (p.0)) (λ size. end_of fault.Form (p.1) (worded.Text size)))
 
 -- the type of single values, by its word: `string` has at most 80 bytes
 abbrev pub type_word : List ℕ → Option Worded
@@ -93,7 +57,7 @@ single_type form = worded_at form (behind (codes "string") form)
 
 -- (set-of TYPE)
 abbrev pub set_type : ℕ → List Form → Reading (Worded × Bool)
-set_type place parts = and_then (next_at place parts) (λ p. and_then (single_type (p.0)) (λ w. end_of (p.1) (w, true)))
+set_type place parts = and_then (next_at fault.Form place parts) (λ p. and_then (single_type (p.0)) (λ w. end_of fault.Form (p.1) (w, true)))
 
 abbrev pub type_at : Form → Option (List Form) → Reading (Worded × Bool)
 type_at form (Some parts) = set_type form.from parts
@@ -154,11 +118,11 @@ choices_after before (word ∷ value ∷ more) = and_then (choices_with before w
 -- (ATTRIBUTE TYPE OPTION ..)
 abbrev pub attribute_parts : ℕ → List Form → Reading AttributeForm
 attribute_parts place parts =
-    and_then (next_at place parts) (λ p. and_then (name_at (p.0)) (λ name. and_then (next_at place (p.1)) (λ q. and_then (value_type (q.0)) (λ ty.
+    and_then (next_at fault.Form place parts) (λ p. and_then (name_at fault.Form (p.0)) (λ name. and_then (next_at fault.Form place (p.1)) (λ q. and_then (value_type (q.0)) (λ ty.
     and_then (choices_after [] (q.1)) (λ choices. Ok (record { name = name; worded = ty.0; many = ty.1; choices = choices }))))))
 
 abbrev pub attribute_form : Form → Reading AttributeForm
-attribute_form form = and_then (forms_at form) (λ parts. attribute_parts form.from parts)
+attribute_form form = and_then (forms_at fault.Form form) (λ parts. attribute_parts form.from parts)
 
 abbrev pub attribute_forms : List Form → Reading (List AttributeForm)
 attribute_forms [] = Ok []
@@ -167,16 +131,16 @@ attribute_forms (form ∷ forms) = and_then (attribute_form form) (λ a. and_the
 -- names, as those of parents
 abbrev pub names_at : List Form → Reading (List (List ℕ))
 names_at [] = Ok []
-names_at (form ∷ forms) = and_then (name_at form) (λ name. and_then (names_at forms) (λ more. Ok (name ∷ more)))
+names_at (form ∷ forms) = and_then (name_at fault.Form form) (λ name. and_then (names_at forms) (λ more. Ok (name ∷ more)))
 
 -- the attributes of a type, which end its form
 abbrev pub last_attributes : ℕ → List Form → Reading (List AttributeForm)
-last_attributes place parts = and_then (next_at place parts) (λ p. and_then (forms_at (p.0)) (λ forms. and_then (attribute_forms forms) (λ attributes. end_of (p.1) attributes)))
+last_attributes place parts = and_then (next_at fault.Form place parts) (λ p. and_then (forms_at fault.Form (p.0)) (λ forms. and_then (attribute_forms forms) (λ attributes. end_of fault.Form (p.1) attributes)))
 
 -- (define-entity-type NAME (PARENT ..) (ATTRIBUTE ..))
 abbrev pub type_parts : ℕ → List Form → Reading TypeForm
 type_parts place parts =
-    and_then (next_at place parts) (λ p. and_then (name_at (p.0)) (λ name. and_then (next_at place (p.1)) (λ q. and_then (forms_at (q.0)) (λ forms. and_then (names_at forms) (λ parents.
+    and_then (next_at fault.Form place parts) (λ p. and_then (name_at fault.Form (p.0)) (λ name. and_then (next_at fault.Form place (p.1)) (λ q. and_then (forms_at fault.Form (q.0)) (λ forms. and_then (names_at forms) (λ parents.
     and_then (last_attributes place (q.1)) (λ attributes. Ok (record { name = name; parents = parents; attributes = attributes })))))))
 
 abbrev pub type_form : Form → Reading TypeForm
@@ -188,7 +152,7 @@ type_forms (form ∷ forms) = and_then (type_form form) (λ t. and_then (type_fo
 
 -- (define-schema NAME)
 abbrev pub schema_name : ℕ → List Form → Reading (List ℕ)
-schema_name place parts = and_then (next_at place parts) (λ p. and_then (name_at (p.0)) (λ name. end_of (p.1) name))
+schema_name place parts = and_then (next_at fault.Form place parts) (λ p. and_then (name_at fault.Form (p.0)) (λ name. end_of fault.Form (p.1) name))
 
 -- the first form and at least one behind it
 abbrev pub schema_parts : List Form → Option (Form × List Form)

@@ -1,6 +1,7 @@
 ghost use Rattle.std.specs.Prelude.{◌≡◌};
-ghost use Rattle.st_schema.specs.declared.fault.SchemaFault.TheVariants.{Memory};
+ghost use Rattle.st_schema.specs.declared.fault.SchemaFault.TheVariants.{Form, Memory};
 
+use st_sexp::Misfit;
 use st_text::{Duplicate, Letters};
 use std::alloc::{AllocError, AllocFailed, Global};
 use thiserror::Error;
@@ -89,6 +90,14 @@ impl<T: Drop> From<AllocFailed<T>> for SchemaFault {
 
     fn from(_: AllocFailed<T>) -> SchemaFault {
         SchemaFault::Memory
+    }
+}
+
+impl Misfit for SchemaFault {
+    ghost misfit = { Form };
+
+    fn misfit(place: u32) -> SchemaFault {
+        SchemaFault::Form { place }
     }
 }
 

@@ -1,30 +1,19 @@
 //! Schemas as text: how a schema is read from forms, checked and printed.
+//!
+//! `read` goes from forms by the written schema (`written`) and its checks (`check`) to a schema by number (`resolve`);
+//! `print` goes back to a text.
 #![tactic(auto)]
 
-#[cfg(test)]
-mod canonical_texts;
-mod checks;
+mod check;
 mod fault;
-mod form;
 mod laws;
-mod names;
-mod option;
 mod print;
-mod reader;
+mod read;
 mod resolve;
-mod round_trip;
-#[cfg(test)]
-mod tests;
-#[cfg(test)]
-mod texts;
-mod types;
 mod written;
 
 pub use fault::{Counted, SchemaFault};
-pub use form::identifier;
-pub use laws::{laws_of_schemas, never_memory};
-pub use names::is_name;
+pub use laws::{laws_of_canonical_texts, laws_of_schemas};
 pub use print::print_schema;
-pub use reader::read_schema;
-pub use round_trip::canonical_reads;
-pub use st_lattice::{Attribute, Feature, Named, Numbers, Schema};
+pub use read::read_schema;
+pub use st_lattice::Schema;

@@ -1,3 +1,4 @@
+//! The canonical text of a schema.
 ghost use Rattle.std.specs.Prelude.{◌≡◌, ◌<◌, [], ◌∷◌, ◌++◌, codes, length, map, IfOk, OnOk};
 ghost use Rattle.std.specs.List.{join_with_byte};
 ghost use Rattle.std.specs.Fmt.{decimal};
@@ -23,6 +24,7 @@ pub fn print_schema(alloc: Global, schema: &Schema) -> Result<Letters, AllocErro
     Ok(text)
 }
 
+/// Adds the definition of a schema's name.
 fn push_definition(into: &mut Letters, name: &str) -> Result<(), AllocError>
     ensures { OnOk result (into.new ≡ into.old ++ in_list (codes "define-schema" ∷ name.now ∷ [])) }
 {
@@ -31,6 +33,7 @@ fn push_definition(into: &mut Letters, name: &str) -> Result<(), AllocError>
     into.push_str(")")
 }
 
+/// Adds the line of the definition.
 fn push_first_line(into: &mut Letters, name: &str) -> Result<(), AllocError>
     ensures { OnOk result (into.new ≡ into.old ++ in_list (codes "define-schema" ∷ name.now ∷ []) ++ 10 ∷ []) }
 {
@@ -48,6 +51,7 @@ fn type_name(schema: &Schema, ty: u16) -> &str
     }
 }
 
+/// Adds a type of texts, with its size.
 fn push_sized_string(into: &mut Letters, size: u8) -> Result<(), AllocError>
     ensures { OnOk result (into.new ≡ into.old ++ in_list (codes "string" ∷ decimal size ∷ [])) }
 {
@@ -57,6 +61,7 @@ fn push_sized_string(into: &mut Letters, size: u8) -> Result<(), AllocError>
     into.push_str(")")
 }
 
+/// Adds a type of single values.
 fn push_kind(into: &mut Letters, schema: &Schema, kind: Kind) -> Result<(), AllocError>
     ensures { OnOk result (into.new ≡ into.old ++ kind_text schema.now kind) }
 {
@@ -68,6 +73,7 @@ fn push_kind(into: &mut Letters, schema: &Schema, kind: Kind) -> Result<(), Allo
     }
 }
 
+/// Adds a type of sets.
 fn push_set(into: &mut Letters, schema: &Schema, kind: Kind) -> Result<(), AllocError>
     ensures { OnOk result (into.new ≡ into.old ++ in_list (codes "set-of" ∷ kind_text schema.now kind ∷ [])) }
 {
@@ -76,6 +82,7 @@ fn push_set(into: &mut Letters, schema: &Schema, kind: Kind) -> Result<(), Alloc
     into.push_str(")")
 }
 
+/// Adds the type of an attribute's values.
 fn push_value_type(
     into: &mut Letters,
     schema: &Schema,
@@ -91,6 +98,7 @@ fn push_value_type(
     }
 }
 
+/// Adds the option of an inverse, where there is one, with a space before it.
 fn push_inverse(into: &mut Letters, inverse: &Option<Letters>) -> Result<(), AllocError>
     ensures { OnOk result (into.new ≡ into.old ++ spaced (inverse_items inverse.now)) }
 {
@@ -103,6 +111,7 @@ fn push_inverse(into: &mut Letters, inverse: &Option<Letters>) -> Result<(), All
     }
 }
 
+/// Adds an option that is on, with a space before it.
 fn push_option(into: &mut Letters, word: &str, on: bool) -> Result<(), AllocError>
     ensures { OnOk result (into.new ≡ into.old ++ spaced (option_items word.now on)) }
 {
@@ -115,6 +124,7 @@ fn push_option(into: &mut Letters, word: &str, on: bool) -> Result<(), AllocErro
     }
 }
 
+/// Adds the options of an attribute, each with a space before it.
 fn push_options(into: &mut Letters, attribute: &Attribute) -> Result<(), AllocError>
     ensures { OnOk result (into.new ≡ into.old ++ spaced (options_of attribute.now)) }
 {
@@ -124,6 +134,7 @@ fn push_options(into: &mut Letters, attribute: &Attribute) -> Result<(), AllocEr
     push_option(into, ":index", attribute.index && !attribute.unique)
 }
 
+/// Adds the name and the type of an attribute.
 fn push_name_and_type(
     into: &mut Letters,
     schema: &Schema,
@@ -136,6 +147,7 @@ fn push_name_and_type(
     push_value_type(into, schema, attribute.many, attribute.kind)
 }
 
+/// Adds what stands between the parentheses of an attribute.
 fn push_parts(into: &mut Letters, schema: &Schema, attribute: &Attribute) -> Result<(), AllocError>
     ensures { OnOk result (into.new ≡ into.old ++ join_with_byte 32 (attribute.now.name ∷ type_text schema.now attribute.now.many attribute.now.kind ∷ options_of attribute.now)) }
 {
@@ -143,6 +155,7 @@ fn push_parts(into: &mut Letters, schema: &Schema, attribute: &Attribute) -> Res
     push_options(into, attribute)
 }
 
+/// Adds an attribute.
 fn push_attribute(
     into: &mut Letters,
     schema: &Schema,
@@ -162,6 +175,7 @@ fn push_gap(into: &mut Letters, later: bool) -> Result<(), AllocError>
     if later { into.push_str(" ") } else { Ok(()) }
 }
 
+/// Adds an attribute, with a space before it where one stands before.
 fn push_own_attribute(
     into: &mut Letters,
     schema: &Schema,
@@ -174,6 +188,7 @@ fn push_own_attribute(
     push_attribute(into, schema, attribute)
 }
 
+/// Adds a type's own attributes.
 fn push_own_attributes(into: &mut Letters, schema: &Schema, ty: u16) -> Result<(), AllocError>
     ensures { OnOk result (into.new ≡ into.old ++ join_with_byte 32 (map (attribute_text schema.now) (own_attributes schema.now ty))) }
 {
@@ -187,6 +202,7 @@ fn push_own_attributes(into: &mut Letters, schema: &Schema, ty: u16) -> Result<(
     Ok(())
 }
 
+/// Adds the name of a type, with a space before it where one stands before.
 fn push_type_name(
     into: &mut Letters,
     schema: &Schema,
@@ -199,6 +215,7 @@ fn push_type_name(
     into.push_str(type_name(schema, ty))
 }
 
+/// Adds the names of types.
 fn push_type_names(into: &mut Letters, schema: &Schema, types: &[u16]) -> Result<(), AllocError>
     ensures { OnOk result (into.new ≡ into.old ++ join_with_byte 32 (map (type_name schema.now) types.now)) }
 {
@@ -210,6 +227,7 @@ fn push_type_names(into: &mut Letters, schema: &Schema, types: &[u16]) -> Result
     Ok(())
 }
 
+/// Adds the list of a type's parents.
 fn push_parents(into: &mut Letters, schema: &Schema, ty: u16) -> Result<(), AllocError>
     requires { ty < length schema.now.names }
     ensures { OnOk result (into.new ≡ into.old ++ in_list (map (type_name schema.now) (parents_of schema.now ty))) }
@@ -219,6 +237,7 @@ fn push_parents(into: &mut Letters, schema: &Schema, ty: u16) -> Result<(), Allo
     into.push_str(")")
 }
 
+/// Adds the list of a type's own attributes.
 fn push_attributes(into: &mut Letters, schema: &Schema, ty: u16) -> Result<(), AllocError>
     ensures { OnOk result (into.new ≡ into.old ++ in_list (map (attribute_text schema.now) (own_attributes schema.now ty))) }
 {
@@ -227,6 +246,7 @@ fn push_attributes(into: &mut Letters, schema: &Schema, ty: u16) -> Result<(), A
     into.push_str(")")
 }
 
+/// Adds the front of a type's form, with its name.
 fn push_type_front(into: &mut Letters, schema: &Schema, ty: u16) -> Result<(), AllocError>
     ensures { OnOk result (into.new ≡ into.old ++ codes "(define-entity-type " ++ type_name schema.now ty) }
 {
@@ -234,6 +254,7 @@ fn push_type_front(into: &mut Letters, schema: &Schema, ty: u16) -> Result<(), A
     into.push_str(type_name(schema, ty))
 }
 
+/// Adds the two lists of a type's form.
 fn push_type_lists(into: &mut Letters, schema: &Schema, ty: u16) -> Result<(), AllocError>
     requires { ty < length schema.now.names }
     ensures { OnOk result (into.new ≡ into.old ++ 32 ∷ in_list (map (type_name schema.now) (parents_of schema.now ty)) ++ 32 ∷ in_list (map (attribute_text schema.now) (own_attributes schema.now ty))) }
@@ -244,6 +265,7 @@ fn push_type_lists(into: &mut Letters, schema: &Schema, ty: u16) -> Result<(), A
     push_attributes(into, schema, ty)
 }
 
+/// Adds the form of a type.
 fn push_type(into: &mut Letters, schema: &Schema, ty: u16) -> Result<(), AllocError>
     requires { ty < length schema.now.names }
     ensures { OnOk result (into.new ≡ into.old ++
@@ -254,6 +276,7 @@ fn push_type(into: &mut Letters, schema: &Schema, ty: u16) -> Result<(), AllocEr
     into.push_str(")")
 }
 
+/// Adds the line of a type.
 fn push_type_line(into: &mut Letters, schema: &Schema, ty: u16) -> Result<(), AllocError>
     requires { ty < length schema.now.names }
     ensures { OnOk result (into.new ≡ into.old ++ type_line schema.now ty) }

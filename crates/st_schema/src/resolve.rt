@@ -28,6 +28,7 @@ fn place_of(names: &[Letters], name: &[u8]) -> u16
     place
 }
 
+/// The kind of a type of values, by numbers.
 fn kind_of(names: &[Letters], worded: &Worded) -> Kind
     requires { length names.now ≤ 64 }
     ensures { result ≡ kind_of names.now worded.now }
@@ -40,6 +41,7 @@ fn kind_of(names: &[Letters], worded: &Worded) -> Kind
     }
 }
 
+/// The name of the inverse that an option gives, copied.
 fn inverse_of(alloc: Global, setting: &Setting) -> Result<Option<Letters>, AllocError>
     ensures { IfOk result (λ found. found ≡ inverse_of setting.now) }
 {
@@ -49,6 +51,7 @@ fn inverse_of(alloc: Global, setting: &Setting) -> Result<Option<Letters>, Alloc
     }
 }
 
+/// The name of the inverse, where one is given, copied.
 fn inverse_in(alloc: Global, choices: &[Choice]) -> Result<Option<Letters>, AllocError>
     ensures { IfOk result (λ found. found ≡ inverse_in choices.now) }
 {
@@ -60,6 +63,7 @@ fn inverse_in(alloc: Global, choices: &[Choice]) -> Result<Option<Letters>, Allo
     Ok(None)
 }
 
+/// Whether an option is `:unique t`.
 fn is_unique(setting: &Setting) -> bool
     ensures { result ≡ is_unique setting.now }
 {
@@ -69,6 +73,7 @@ fn is_unique(setting: &Setting) -> bool
     }
 }
 
+/// Whether an option is `:no-nulls t`.
 fn is_no_nulls(setting: &Setting) -> bool
     ensures { result ≡ is_no_nulls setting.now }
 {
@@ -78,6 +83,7 @@ fn is_no_nulls(setting: &Setting) -> bool
     }
 }
 
+/// Whether an option is `:index t`.
 fn is_index(setting: &Setting) -> bool
     ensures { result ≡ is_index setting.now }
 {
@@ -87,24 +93,28 @@ fn is_index(setting: &Setting) -> bool
     }
 }
 
+/// Whether `:unique t` is among options.
 fn any_unique(choices: &[Choice]) -> bool
     ensures { result ≡ is_on is_unique choices.now }
 {
     choices.iter().any(|choice| is_unique(&choice.setting))
 }
 
+/// Whether `:no-nulls t` is among options.
 fn any_no_nulls(choices: &[Choice]) -> bool
     ensures { result ≡ is_on is_no_nulls choices.now }
 {
     choices.iter().any(|choice| is_no_nulls(&choice.setting))
 }
 
+/// Whether `:index t` is among options.
 fn any_index(choices: &[Choice]) -> bool
     ensures { result ≡ is_on is_index choices.now }
 {
     choices.iter().any(|choice| is_index(&choice.setting))
 }
 
+/// An attribute by its number and its owner; a unique one keeps an index.
 fn attribute_of_form(
     alloc: Global,
     names: &[Letters],
@@ -181,6 +191,7 @@ fn all_attributes(
     Ok(attributes)
 }
 
+/// The positions of names.
 fn places_of(alloc: Global, names: &[Letters], parents: &[Letters]) -> Result<Numbers, AllocError>
     requires { length names.now ≤ 64 }
     ensures { IfOk result (λ places. places ≡ map (place_of names.now) parents.now) }
@@ -192,6 +203,7 @@ fn places_of(alloc: Global, names: &[Letters], parents: &[Letters]) -> Result<Nu
     Ok(places)
 }
 
+/// The parents of all types, by position.
 fn all_parents(
     alloc: Global,
     names: &[Letters],

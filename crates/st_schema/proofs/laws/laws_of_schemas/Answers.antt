@@ -1,5 +1,6 @@
-use Rattle.st_schema.proofs.Read.{read_orderly, read_plain}
+use Rattle.st_schema.proofs.Known.{read_orderly, read_consistent}
+use Rattle.st_schema.proofs.Memoryless.{never_memory}
 use Rattle.st_schema.proofs.laws.laws_of_schemas.Goals as goal
 
 pub returns : goal.returns
-returns c = record { orderly = read_orderly; plain = read_plain }
+returns c = record { orderly = read_orderly; consistent = read_consistent; told = never_memory }

@@ -1,5 +1,0 @@
-use Rattle.st_schema.proofs.RoundTrip.{canonical_reads, canonical_short}
-use Rattle.st_schema.proofs.round_trip.canonical_reads.Goals as goal
-
-pub returns : goal.returns
-returns c = record { same = canonical_reads; short = canonical_short }
