@@ -1,8 +1,10 @@
 -- A transaction that runs over lists.
 use Rattle.std.specs.Prelude.{◌≡◌, ℕ, ◌+◌, ◌<◌, ◌^◌, List, slice_index, Option, Some, None}
+use Rattle.st_lattice.specs.declared.attribute.Attribute.{Attribute}
+use Rattle.st_lattice.specs.declared.called.Called.{Called}
+use Rattle.st_lattice.specs.declared.called.Called.TheVariants.{Own}
 use Rattle.st_query.specs.declared.term.Variable.{Variable}
 use Rattle.st_state.specs.State.{State}
-use Rattle.st_meaning.specs.Terms.{Called, Own}
 use Rattle.st_meaning.specs.Statements.{Present}
 
 -- a state and variables
@@ -18,6 +20,6 @@ abbrev pub HasRoom : State → Type 0
 HasRoom state = (ty : ℕ) → slice_index state.last ty + 1 < 2 ^ 32
 
 -- the number of the attribute that was called, where one was
-abbrev pub own_number : Called → Option ℕ
+abbrev pub own_number : Called Attribute → Option ℕ
 own_number (Own a) = Some a.number
 own_number _ = None

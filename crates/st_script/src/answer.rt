@@ -15,16 +15,26 @@ use st_text::Letters;
 use st_values::{Lines, Value, push_value};
 use std::alloc::{AllocError, Global};
 
+/// Adds values as they are printed, each behind a space.
+fn push_behind(into: &mut Letters, values: &[Value], names: &[Letters]) -> Result<(), AllocError>
+    ensures { OnOk result (into.new ≡ into.old ++ flat_map (λ value. 32 ∷ printed names.now value) values.now) }
+{
+    for value in values {
+        into.push_str(" ")?;
+        push_value(into, value, names)?;
+    }
+    Ok(())
+}
+
+/// Adds values as they are printed, with a space between two.
 fn push_values(into: &mut Letters, values: &[Value], names: &[Letters]) -> Result<(), AllocError>
     ensures { OnOk result (into.new ≡ into.old ++ join_with_byte 32 (map (printed names.now) values.now)) }
 {
     match values {
         [] => Ok(()),
-        [value] => push_value(into, value, names),
-        [value, rest @ ..] => {
-            push_value(into, value, names)?;
-            into.push_str(" ")?;
-            push_values(into, rest, names)
+        [first, others @ ..] => {
+            push_value(into, first, names)?;
+            push_behind(into, others, names)
         }
     }
 }

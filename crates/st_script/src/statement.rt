@@ -1,68 +1,26 @@
-ghost use Rattle.std.specs.Prelude.{◌≡◌, ◌≤◌, ◌+◌, ◌<◌, ◌^◌, ◌∷◌, ◌++◌, length, take, drop, map, slice_index, Option, Some, IfOk, IfSome, OnOk};
+//! What statements do.
+ghost use Rattle.std.specs.Prelude.{◌≡◌, ◌+◌, ◌<◌, ◌^◌, length, map, slice_index, Option, Some, IfOk, IfSome, OnOk};
+ghost use Rattle.std.specs.Vec.{vec_len};
+ghost use Rattle.std.specs.Option.{option_copied, option_map};
 ghost use Rattle.st_lattice.specs.declared.attribute.Attribute.{Attribute};
-ghost use Rattle.st_script.specs.Run.{present, IsPresent, HasRoom, own_number};
-ghost use Rattle.st_query.specs.Thin.{IsThinStatement};
+ghost use Rattle.st_lattice.specs.declared.called.Called.{Called};
 ghost use Rattle.st_lattice.specs.Outline.{type_named};
 ghost use Rattle.st_lattice.specs.Lattice.{attribute_of};
-ghost use Rattle.std.specs.List.{position_or_len};
-ghost use Rattle.std.specs.Vec.{vec_len};
-ghost use Rattle.std.specs.Str.{bytes_eq};
-ghost use Rattle.std.specs.Option.{option_copied, option_map};
-ghost use Rattle.st_meaning.specs.Terms.{Called, own, called, bind, term_value, term_meaning};
-ghost use Rattle.st_meaning.specs.Statements.{cell_set, cells_set, makes, makes_of, sets, printed_meaning, print_tail, does, answers};
+ghost use Rattle.st_lattice.specs.Called.{called};
+ghost use Rattle.st_query.specs.Thin.{IsThinStatement};
+ghost use Rattle.st_meaning.specs.Terms.{term_value};
+ghost use Rattle.st_meaning.specs.Statements.{cell_set, cells_set, makes, makes_of, sets, does, answers};
+ghost use Rattle.st_script.specs.Run.{present, IsPresent, HasRoom, own_number};
 
 use crate::answer::print_lines;
-use crate::term::{term_meaning, term_value};
+use crate::term::term_value;
 use sqlite_items::Items;
-use st_lattice::{Attribute, Feature};
+use st_lattice::{Attribute, Called};
 use st_plain::Plain;
-use st_query::{Cell, Statement, Term, Variable};
-use st_text::{Duplicate, Letters};
+use st_query::{Cell, Statement, Term, Variable, bind};
+use st_text::Letters;
 use st_values::{EntityId, Lines, Value};
 use std::alloc::{AllocError, Global};
-
-fn place_of(variables: &[Variable], name: &[u8]) -> usize
-    ensures value { result ≡ position_or_len (λ variable. bytes_eq variable.name name.now) variables.now }
-    ensures within { result ≤ length variables.now }
-{
-    let mut place = 0;
-    for variable in variables {
-        if variable.name.as_slice() == name {
-            return place;
-        }
-        place += 1;
-    }
-    place
-}
-
-/// Writes over the variable at a place, or adds one at the end.
-fn put(variables: &mut Vec<Variable>, place: usize, variable: Variable) -> Result<(), AllocError>
-    requires { place ≤ vec_len variables.old }
-    ensures { OnOk result (variables.new.items ≡ take place variables.old.items ++ variable ∷ drop (place + 1) variables.old.items) }
-{
-    if place < variables.len() {
-        variables[place] = variable;
-    } else {
-        variables.push(variable)?;
-    }
-    Ok(())
-}
-
-fn bind(
-    alloc: Global,
-    variables: &mut Vec<Variable>,
-    name: &Letters,
-    value: Value,
-) -> Result<(), AllocError>
-    ensures { OnOk result (variables.new.items ≡ bind name.now value variables.old.items) }
-{
-    let place = place_of(variables, name.as_slice());
-    let variable = Variable {
-        name: name.copy(alloc)?,
-        value,
-    };
-    put(variables, place, variable)
-}
 
 fn cell_values(
     alloc: Global,
@@ -110,14 +68,13 @@ fn set_cells(
     ty: u16,
     entity: EntityId,
     cells: &[Cell],
-    mut values: Vec<Value>,
+    values: Vec<Value>,
 ) -> Result<(), AllocError>
     requires counts { vec_len values ≡ length cells.now }
     requires there { ty < length plain.old.schema.names }
     ensures { OnOk result (plain.new ≡ cells_set ty entity cells.now values.items plain.old) }
 {
-    for cell in cells {
-        let value = values.remove(0);
+    for (cell, value) in cells.iter().zip(values) {
         set_cell(plain, ty, entity, cell, value)?;
     }
     Ok(())
@@ -169,9 +126,9 @@ fn make(
 fn own_number(plain: &Plain, name: &[u8]) -> Option<u16>
     ensures { result ≡ own_number (called plain.now.schema name.now) }
 {
-    match plain.schema().lookup(name) {
-        Some(Feature::Attribute(number)) => number_of(plain.schema().attribute(number)),
-        _ => None,
+    match plain.schema().called(name) {
+        Called::Own(attribute) => Some(attribute.number),
+        Called::Inverse(_) | Called::Nothing => None,
     }
 }
 
@@ -181,7 +138,7 @@ fn set_of(
     target: &Value,
     value: Value,
 ) -> Result<(), AllocError>
-    ensures { (c : Called) → number ≡ own_number c → OnOk result (plain.new ≡ sets plain.old c target.now value) }
+    ensures { (c : Called Attribute) → number ≡ own_number c → OnOk result (plain.new ≡ sets plain.old c target.now value) }
 {
     match (number, target) {
         (Some(number), Value::Entity(entity)) => plain.set(*entity, number, value),

@@ -1,56 +1,16 @@
-ghost use Rattle.std.specs.Prelude.{◌≡◌, find, map, IfOk};
-ghost use Rattle.std.specs.Option.{option_copied};
-ghost use Rattle.std.specs.Str.{bytes_eq};
+//! What terms stand for.
+ghost use Rattle.std.specs.Prelude.{◌≡◌, map, IfOk};
 ghost use Rattle.st_values.specs.declared.value.Value.TheVariants.{Entity};
-ghost use Rattle.st_meaning.specs.Terms.{single, literal_value, entity_value, variable_value, called, own, inverse, attribute_value, inverse_value, feature_value, term_meaning, term_value};
+ghost use Rattle.st_lattice.specs.Called.{called};
+ghost use Rattle.st_meaning.specs.Terms.{single, attribute_value, inverse_value, feature_value, term_meaning, term_value};
 
 use sqlite_items::Items;
-use st_lattice::{Attribute, Feature, Schema};
+use st_lattice::{Attribute, Called};
 use st_meaning::Meaning;
 use st_plain::Plain;
-use st_query::{Literal, Term, Variable};
-use st_values::{Duplicate, EntityId, Value, Values};
+use st_query::{Term, Variable, literal_value, variable_value};
+use st_values::{EntityId, Value, Values};
 use std::alloc::{AllocError, Global};
-
-fn entity_value(ty: Option<u16>, serial: u32) -> Value
-    ensures { result ≡ entity_value ty serial }
-{
-    match ty {
-        Some(ty) => Value::Entity(EntityId { ty, serial }),
-        None => Value::Null,
-    }
-}
-
-fn literal_value(alloc: Global, schema: &Schema, literal: &Literal) -> Result<Value, AllocError>
-    ensures { IfOk result (λ value. value ≡ literal_value schema.now literal.now) }
-{
-    match literal {
-        Literal::Null => Ok(Value::Null),
-        Literal::Int(number) => Ok(Value::Int(*number)),
-        Literal::Bool(truth) => Ok(Value::Bool(*truth)),
-        Literal::Text(text) => Ok(Value::Text(text.copy(alloc)?)),
-        Literal::Entity(ty, serial) => {
-            Ok(entity_value(schema.type_named(ty.as_slice()), *serial))
-        }
-    }
-}
-
-fn variable_named<'a>(variables: &'a [Variable], name: &[u8]) -> Option<&'a Variable>
-    ensures { option_copied result ≡ find (λ variable. bytes_eq variable.name name.now) variables.now }
-{
-    variables
-        .iter()
-        .find(|variable| variable.name.as_slice() == name)
-}
-
-fn variable_value(alloc: Global, variables: &[Variable], name: &[u8]) -> Result<Value, AllocError>
-    ensures { IfOk result (λ value. value ≡ variable_value variables.now name.now) }
-{
-    match variable_named(variables, name) {
-        Some(variable) => variable.value.copy(alloc),
-        None => Ok(Value::Null),
-    }
-}
 
 /// The value of an attribute of an entity, or its set; over null it is null or the empty set.
 fn attribute_value(
@@ -107,34 +67,6 @@ fn inverse_value(
     }
 }
 
-fn own_value(
-    alloc: Global,
-    plain: &Plain,
-    attribute: Option<&Attribute>,
-    value: &Value,
-) -> Result<Meaning, AllocError>
-    ensures { IfOk result (λ meaning. meaning ≡ feature_value plain.now (own (option_copied attribute.entry)) value.now) }
-{
-    match attribute {
-        Some(attribute) => attribute_value(alloc, plain, attribute, value),
-        None => Ok(Meaning::Single(Value::Null)),
-    }
-}
-
-fn turned_value(
-    alloc: Global,
-    plain: &Plain,
-    attribute: Option<&Attribute>,
-    value: &Value,
-) -> Result<Meaning, AllocError>
-    ensures { IfOk result (λ meaning. meaning ≡ feature_value plain.now (inverse (option_copied attribute.entry)) value.now) }
-{
-    match attribute {
-        Some(attribute) => inverse_value(alloc, plain, attribute, value),
-        None => Ok(Meaning::Single(Value::Null)),
-    }
-}
-
 /// A feature of a value, by its qualified name.
 fn feature_value(
     alloc: Global,
@@ -144,14 +76,10 @@ fn feature_value(
 ) -> Result<Meaning, AllocError>
     ensures { IfOk result (λ meaning. meaning ≡ feature_value plain.now (called plain.now.schema name.now) value.now) }
 {
-    match plain.schema().lookup(name) {
-        Some(Feature::Attribute(number)) => {
-            own_value(alloc, plain, plain.schema().attribute(number), value)
-        }
-        Some(Feature::Inverse(number)) => {
-            turned_value(alloc, plain, plain.schema().attribute(number), value)
-        }
-        None => Ok(Meaning::Single(Value::Null)),
+    match plain.schema().called(name) {
+        Called::Own(attribute) => attribute_value(alloc, plain, attribute, value),
+        Called::Inverse(attribute) => inverse_value(alloc, plain, attribute, value),
+        Called::Nothing => Ok(Meaning::Single(Value::Null)),
     }
 }
 
