@@ -11,7 +11,7 @@ use Rattle.st_lattice.specs.Lattice.{isa}
 use Rattle.st_lattice.specs.Features.{lookup}
 use Rattle.st_query.specs.declared.term.Term.{Term}
 use Rattle.st_query.specs.declared.term.Term.TheOpen.{Term-F}
-use Rattle.st_schema.specs.Written.{only_if}
+use Rattle.st_sexp.specs.Items.{only_if}
 use Rattle.st_thin.specs.declared.bound.Bound.{Bound}
 use Rattle.st_thin.specs.Bound.{variable_type}
 

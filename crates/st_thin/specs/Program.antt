@@ -4,7 +4,7 @@ use Rattle.std.specs.List.{list_any}
 use Rattle.std.specs.Option.{option_and_then}
 use Rattle.st_sexp.specs.declared.form.Form.{Form}
 use Rattle.st_lattice.specs.Outline.{Outline}
-use Rattle.st_schema.specs.Written.{only_if}
+use Rattle.st_sexp.specs.Items.{only_if}
 use Rattle.st_query.specs.declared.statement.Statement.{Statement}
 use Rattle.st_query.specs.declared.statement.Statement.TheVariants as statement
 use Rattle.st_thin.specs.Thin.{thin_transaction}

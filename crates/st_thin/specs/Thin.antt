@@ -1,13 +1,12 @@
 -- The thin form of a transaction: which statements its forms are.
-use Rattle.std.specs.Prelude.{ℕ, Bool, true, not, ◌&&◌, nat_le, if◌then◌else◌, List, [], ◌∷◌, length, map, Option, Some, None, codes}
-use Rattle.std.specs.List.{list_any}
+use Rattle.std.specs.Prelude.{ℕ, ◌&&◌, nat_le, if◌then◌else◌, List, [], ◌∷◌, length, map, Option, Some, None, codes}
 use Rattle.std.specs.Option.{option_and_then, option_map}
-use Rattle.std.specs.Str.{bytes_eq}
 use Rattle.st_sexp.specs.declared.form.Form.{Form}
 use Rattle.st_sexp.specs.declared.form.Shape.{Shape, out-Shape}
 use Rattle.st_sexp.specs.declared.form.Shape.TheOpen.{Shape-F}
 use Rattle.st_sexp.specs.Views.{as_name, as_list, as_pair, as_front, is_word}
-use Rattle.st_schema.specs.Written.{only_if, identifier}
+use Rattle.st_sexp.specs.Items.{only_if, identifier}
+use Rattle.st_values.specs.Names.{all_differ}
 use Rattle.st_query.specs.declared.term.Literal.TheVariants as literal
 use Rattle.st_query.specs.declared.term.Term.{Term}
 use Rattle.st_query.specs.declared.term.Term.TheVariants as term
@@ -44,15 +43,6 @@ thin_cell form =
 abbrev pub thin_cells : List Form → Option (List Cell)
 thin_cells [] = Some []
 thin_cells (form ∷ forms) = option_and_then (λ cell. option_map (λ more. cell ∷ more) (thin_cells forms)) (thin_cell form)
-
--- whether a name is among some
-abbrev pub is_named : List (List ℕ) → List ℕ → Bool
-is_named names name = list_any (λ other. bytes_eq other name) names
-
--- whether names differ from each other
-abbrev pub all_differ : List (List ℕ) → Bool
-all_differ [] = true
-all_differ (name ∷ names) = not (is_named names name) && all_differ names
 
 -- cells whose names differ; a schema has 256 attributes at most
 abbrev pub differing_cells : List Form → Option (List Cell)

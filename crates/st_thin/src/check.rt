@@ -41,7 +41,7 @@ fn kind_fits(schema: &Schema, wanted: Kind, kind: Kind) -> bool
         (Kind::Int, Kind::Int) => true,
         (Kind::Bool, Kind::Bool) => true,
         (Kind::Text(limit), Kind::Text(other)) => other <= limit,
-        (Kind::Entity(ancestor), Kind::Entity(ty)) => schema.is_of(ty, ancestor),
+        (Kind::Entity(ancestor), Kind::Entity(ty)) => schema.isa(ty, ancestor),
         _ => false,
     }
 }

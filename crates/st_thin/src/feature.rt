@@ -52,7 +52,7 @@ fn is_one_of(schema: &Schema, ty: Option<u16>, ancestor: Option<u16>) -> bool
     ensures { result ≡ is_one_of schema.now ty ancestor }
 {
     match (ty, ancestor) {
-        (Some(ty), Some(ancestor)) => schema.is_of(ty, ancestor),
+        (Some(ty), Some(ancestor)) => schema.isa(ty, ancestor),
         _ => false,
     }
 }

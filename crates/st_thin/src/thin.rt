@@ -1,11 +1,13 @@
-ghost use Rattle.std.specs.Prelude.{◌≡◌, ◌≤◌, length, map, IfOk, IfSome};
+ghost use Rattle.std.specs.Prelude.{◌≡◌, ◌≤◌, not, length, map, IfOk, IfSome};
+ghost use Rattle.std.specs.List.{list_all};
 ghost use Rattle.std.specs.Option.{option_map};
-ghost use Rattle.st_thin.specs.Thin.{is_named, all_differ, thin_path, thin_term, thin_terms, thin_cell, thin_cells, differing_cells, thin_make, thin_target, thin_set, thin_print, by_keyword, thin_statement, thin_statements, thin_transaction};
+ghost use Rattle.std.specs.Str.{bytes_eq};
+ghost use Rattle.st_values.specs.Names.{all_differ};
+ghost use Rattle.st_thin.specs.Thin.{thin_path, thin_term, thin_terms, thin_cell, thin_cells, differing_cells, thin_make, thin_target, thin_set, thin_print, by_keyword, thin_statement, thin_statements, thin_transaction};
 
 use sqlite_items::{Boxed, Items};
 use st_query::{Cell, Cells, Literal, Statement, Statements, Term, Terms};
-use st_schema::identifier;
-use st_sexp::{Form, Shape, as_front, as_list, as_name, as_pair, is_word};
+use st_sexp::{Form, Shape, as_front, as_list, as_name, as_pair, identifier, is_word};
 use st_text::{Duplicate, Letters};
 use std::alloc::{AllocError, Global};
 
@@ -90,21 +92,23 @@ fn thin_cells(alloc: Global, forms: &[Form]) -> Result<Option<Cells>, AllocError
     Ok(Some(cells))
 }
 
-fn is_named(cells: &[Cell], name: &[u8]) -> bool
-    ensures { result ≡ is_named (map (λ cell. cell.name) cells.now) name.now }
+/// Whether no cell has a name.
+fn differ_from(cells: &[Cell], name: &[u8]) -> bool
+    ensures { result ≡ list_all (λ other. not (bytes_eq other name.now)) (map (λ cell. cell.name) cells.now) }
 {
     match cells {
-        [] => false,
-        [first, rest @ ..] => first.name.as_slice() == name || is_named(rest, name),
+        [] => true,
+        [first, rest @ ..] => first.name.as_slice() != name && differ_from(rest, name),
     }
 }
 
+/// Whether no two cells have one name.
 fn all_differ(cells: &[Cell]) -> bool
     ensures { result ≡ all_differ (map (λ cell. cell.name) cells.now) }
 {
     match cells {
         [] => true,
-        [first, rest @ ..] => !is_named(rest, first.name.as_slice()) && all_differ(rest),
+        [first, rest @ ..] => differ_from(rest, first.name.as_slice()) && all_differ(rest),
     }
 }
 
