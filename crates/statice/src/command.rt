@@ -11,7 +11,7 @@ ghost use Rattle.statice.specs.Words.{is_try};
 
 use crate::input::{InputFault, MAX_INPUT, read_input};
 use crate::program::{Found, program_of};
-use crate::run::{RunFault, run};
+use crate::run::{MAX_STATEMENTS, RunFault, run};
 use crate::status::{BAD_WORDS, Ended, Status};
 use crate::words::is_try;
 use st_edge::{Disk, Failed, Sink, Source, write_all};
@@ -37,7 +37,7 @@ fn run_program<K: Sink>(
     statements: &[Statement],
     sink: &mut K,
 ) -> Ended
-    requires few { length statements.now ≤ 4096 }
+    requires few { length statements.now ≤ MAX_STATEMENTS }
     requires thin { All IsThinStatement statements.now }
     ensures prints { Prints (unrefused_output schema statements.now) (K.state sink.old) (K.state sink.new) result }
     ensures never_falls { (K.state sink.old).faults ≤ (K.state sink.new).faults }

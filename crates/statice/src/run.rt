@@ -16,6 +16,9 @@ use st_query::{Statement, Variable};
 use st_script::step;
 use std::alloc::{AllocError, AllocFailed, Global};
 
+/// How many statements a transaction has at most.
+pub const MAX_STATEMENTS: usize = 4_096;
+
 /// Why a transaction was not run to its end.
 #[derive(Clone, Copy, Debug, PartialEq, Eq)]
 pub enum RunFault {
@@ -88,7 +91,7 @@ pub fn run<K: Sink>(
     statements: &[Statement],
     sink: &mut K,
 ) -> Result<(), RunFault>
-    requires few { length statements.now ≤ 4096 }
+    requires few { length statements.now ≤ MAX_STATEMENTS }
     requires thin { All IsThinStatement statements.now }
     ensures ok { OnOk result (TakesAll (K.state sink.old) (K.state sink.new) (unrefused_output schema statements.now)) }
     ensures err { OnErr result (TakesFront (K.state sink.old) (K.state sink.new) (unrefused_output schema statements.now)) }
