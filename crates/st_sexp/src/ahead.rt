@@ -1,4 +1,4 @@
-ghost use Rattle.std.specs.Prelude.{◌≡◌, ◌↔◌, length, reverse, IsTrue, IfOk};
+ghost use Rattle.std.specs.Prelude.{◌≡◌, ◌↔◌, [], ◌∷◌, length, reverse, IsTrue, IfOk, MatchOption};
 ghost use Rattle.st_sexp.specs.Nested.{front};
 
 use sqlite_items::Items;
@@ -66,5 +66,12 @@ impl<T: Drop> Ahead<T> {
             Some(first) => Some((first, Ahead { reversed })),
             None => None,
         }
+    }
+
+    /// Takes the first item.
+    pub fn next(&mut self) -> Option<T>
+        ensures { MatchOption result ((self.old ≡ []) × (self.new ≡ [])) (λ first. self.old ≡ first ∷ self.new) }
+    {
+        self.reversed.pop()
     }
 }
