@@ -15,3 +15,4 @@ pub mod Building
 pub mod SomeAnswer
 pub mod Naming
 pub mod Steps
+pub mod Descents

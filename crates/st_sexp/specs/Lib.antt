@@ -4,3 +4,4 @@ pub mod Levels
 pub mod Views
 pub mod Names
 pub mod Items
+pub mod Nested
