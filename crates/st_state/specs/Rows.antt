@@ -23,11 +23,11 @@ pub record Row : Type 0 where
 -- a live entity in the extent of its type, with its single values that don't stand apart
 abbrev pub entity_row : State → EntityId → Row
 entity_row state e = record {
-    store = store Extent e.ty;
-    entity = e;
-    value = Null;
-    cells = map (λ a. value_at a.number e state.triples) (filter (λ a. not a.many && not a.column) (attributes_in state.schema e.ty));
-  }
+  store = store Extent e.ty;
+  entity = e;
+  value = Null;
+  cells = map (λ a. value_at a.number e state.triples) (filter (λ a. not a.many && not a.column) (attributes_in state.schema e.ty));
+}
 
 -- a triple whose value is in the key
 abbrev pub keyed_row : StoreKind → Triple → Row
