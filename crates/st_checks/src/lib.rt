@@ -1,16 +1,7 @@
-//! Checks of the whole database from its words to its output, over bytes in memory. The crate has
-//! tests and nothing else.
+//! Checks of what neither a clause nor a table of `st_tables` can say. The crate has tests and nothing else.
 #![tactic(auto)]
 
 #[cfg(test)]
-mod faults;
+mod copies;
 #[cfg(test)]
-mod forms;
-#[cfg(test)]
-mod run;
-#[cfg(test)]
-mod schemas;
-#[cfg(test)]
-mod tests;
-#[cfg(test)]
-mod transactions;
+mod edge;
