@@ -9,3 +9,4 @@ pub mod Cells
 pub mod Making
 pub mod Whole
 mod Unrefused
+mod Spent

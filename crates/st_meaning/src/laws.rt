@@ -5,7 +5,7 @@ ghost use Rattle.std.specs.declared.cmp.Ordering.TheVariants.{Equal};
 ghost use Rattle.st_values.specs.declared.value.EntityId.{EntityId};
 ghost use Rattle.st_values.specs.Arranged.{ascends};
 ghost use Rattle.st_values.specs.Order.{entity_before};
-ghost use Rattle.st_lattice.specs.Outline.{Outline, IsOrderly};
+ghost use Rattle.st_lattice.specs.Outline.{Outline, IsOrderly, type_named};
 ghost use Rattle.st_lattice.specs.Consistent.{IsConsistent};
 ghost use Rattle.st_query.specs.declared.statement.Statement.{Statement};
 ghost use Rattle.st_query.specs.declared.statement.Statement.TheVariants as statement;
@@ -14,20 +14,23 @@ ghost use Rattle.st_query.specs.declared.term.Term.{Term};
 ghost use Rattle.st_query.specs.declared.term.Variable.{Variable};
 ghost use Rattle.st_query.specs.Written.{is_written};
 ghost use Rattle.st_state.specs.declared.refusal.Refusal.{Refusal};
+ghost use Rattle.st_state.specs.declared.refusal.Refusal.TheVariants.{NumbersSpent};
 ghost use Rattle.st_state.specs.Legal.{IsNearlyLegal, IsLegal};
 ghost use Rattle.st_state.specs.State.{State, empty_state, entity_made};
 ghost use Rattle.st_meaning.specs.Lines.{output_of, unrefused_output};
 ghost use Rattle.st_meaning.specs.Laws.{are_by, order_of_rules, IsFirst};
-ghost use Rattle.st_meaning.specs.Rules.{rules, refusal};
+ghost use Rattle.st_meaning.specs.Rules.{rules, refusal, spent_type};
 ghost use Rattle.st_meaning.specs.Runs.{RefusedAt, runs};
 ghost use Rattle.st_meaning.specs.Selection.{selects, selected, written_before, written_order};
 ghost use Rattle.st_meaning.specs.Statements.{Present, does};
 
 /// Does nothing: its contract says that a refusal is by one rule alone. Each rule gives only
-/// refusals of its own number, and the refusal of a statement is that of the first rule that gives one.
+/// refusals of its own number, and the refusal of a statement is that of the first rule that gives one. Where all
+/// serials of a type were given out, the refusal names the type as it was written.
 pub fn laws_of_refusals()
     ensures own_numbers { (p : Present) (s : Statement) → IsTrue (are_by order_of_rules (rules p s)) }
     ensures first { (p : Present) (s : Statement) (r : Refusal) → refusal p s ≡ Some r → IsFirst (rules p s) r }
+    ensures spent { (state : State) (ty : List ℕ) (r : Refusal) → spent_type state (type_named state.schema ty) ≡ Some r → r ≡ NumbersSpent ty }
 {}
 
 /// Does nothing: its contract says which statements leave the state as it was, and that a refused
