@@ -7,7 +7,6 @@ use Rattle.std.proofs.lemmas.Bool.{and_parts, leb-true}
 use Rattle.st_sexp.specs.declared.form.Form.{Form}
 use Rattle.st_sexp.specs.Views.{as_name, as_number}
 use Rattle.st_sexp.proofs.Steps.{step, given, passed, identifier_name, name_good, end_good}
-use Rattle.st_schema.specs.declared.fault.SchemaFault.{SchemaFault}
 use Rattle.st_schema.specs.declared.fault.SchemaFault.TheVariants as fault
 use Rattle.st_schema.specs.declared.written.Setting.{Setting}
 use Rattle.st_schema.specs.declared.written.Setting.TheVariants as setting
@@ -18,8 +17,8 @@ use Rattle.st_schema.specs.declared.written.AttributeForm.{AttributeForm}
 use Rattle.st_schema.specs.declared.written.TypeForm.{TypeForm}
 use Rattle.st_schema.specs.declared.written.Written.{Written}
 use Rattle.st_sexp.specs.Names.{is_name}
-use Rattle.st_sexp.specs.Items.{and_then, only_if, identifier, name_at, forms_at, next_at, end_of, behind}
-use Rattle.st_schema.specs.Written.{Reading, size_of, size_at, sized_string, type_word, worded_at, single_type, set_type, type_at, value_type, truth, setting_of, is_given, new_choice, choice_at, choices_with, option_word, choices_after, last_attributes, attribute_parts, attribute_form, attribute_forms, names_at, type_parts, type_form, type_forms, schema_name, written}
+use Rattle.st_sexp.specs.Items.{and_then, identifier, name_at, forms_at, next_at, end_of, behind}
+use Rattle.st_schema.specs.Written.{size_of, size_at, sized_string, type_word, worded_at, single_type, set_type, type_at, value_type, truth, setting_of, is_given, new_choice, choice_at, choices_with, option_word, choices_after, last_attributes, attribute_parts, attribute_form, attribute_forms, names_at, type_parts, type_form, type_forms, schema_name, written}
 use Rattle.st_schema.specs.Resolved.{inverse_in}
 use Rattle.st_schema.proofs.ValueTypes.{CanBeWritten}
 use Rattle.st_schema.proofs.Options.{IsInverse}

@@ -3,7 +3,7 @@ use sqlite_items::Items;
 use st_text::Letters;
 
 /// An option of an attribute.
-#[derive(Debug, Drop)]
+#[derive(Drop)]
 pub enum Setting {
     /// `:inverse NAME`.
     Inverse(Letters),
@@ -16,7 +16,7 @@ pub enum Setting {
 }
 
 /// An option, and where its word begins.
-#[derive(Debug, Drop)]
+#[derive(Drop)]
 pub struct Choice {
     pub setting: Setting,
     pub place: u32,
@@ -26,7 +26,7 @@ pub struct Choice {
 pub type Choices = Items<Choice>;
 
 /// The type of single values.
-#[derive(Debug, Drop)]
+#[derive(Drop)]
 pub enum Worded {
     Int,
     Bool,
@@ -37,7 +37,7 @@ pub enum Worded {
 }
 
 /// An attribute.
-#[derive(Debug, Drop)]
+#[derive(Drop)]
 pub struct AttributeForm {
     pub name: Letters,
     pub worded: Worded,
@@ -53,7 +53,7 @@ pub type AttributeForms = Items<AttributeForm>;
 pub type Names = Items<Letters>;
 
 /// A type.
-#[derive(Debug, Drop)]
+#[derive(Drop)]
 pub struct TypeForm {
     pub name: Letters,
     pub parents: Names,
@@ -64,7 +64,7 @@ pub struct TypeForm {
 pub type TypeForms = Items<TypeForm>;
 
 /// A schema.
-#[derive(Debug, Drop)]
+#[derive(Drop)]
 pub struct Written {
     pub name: Letters,
     pub types: TypeForms,

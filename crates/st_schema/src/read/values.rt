@@ -1,7 +1,7 @@
 //! The types of attributes' values.
 ghost use Rattle.std.specs.Prelude.{◌≡◌, IfOk, None};
 ghost use Rattle.st_text.specs.Answer.{Answers};
-ghost use Rattle.st_schema.specs.Written.{told, size_at, sized_string, type_word, worded_at, single_type, set_type, type_at, value_type};
+ghost use Rattle.st_schema.specs.Written.{told, size_of, size_at, sized_string, type_word, worded_at, single_type, set_type, type_at, value_type};
 
 use crate::SchemaFault;
 use crate::written::Worded;
@@ -9,13 +9,26 @@ use st_sexp::{Form, as_name, as_number, behind, end_of, is_name, next_at};
 use st_text::{Duplicate, Letters};
 use std::alloc::{AllocError, Global};
 
+/// A size of texts, where the number is from 1 to 200.
+fn size_of(number: i64) -> Option<u8>
+    ensures { result ≡ size_of (Some number) }
+{
+    if number < 1 || 200 < number {
+        return None;
+    }
+    Some(number as u8)
+}
+
 /// The `N` of `(string N)`, from 1 to 200.
 fn size_at(form: &Form) -> Result<u8, SchemaFault>
     ensures { result ≡ size_at form.now }
 {
-    match as_number(form) {
-        Some(size) if 1 <= size && size <= 200 => Ok(size as u8),
-        _ => Err(SchemaFault::Form { place: form.from }),
+    let Some(number) = as_number(form) else {
+        return Err(SchemaFault::Form { place: form.from });
+    };
+    match size_of(number) {
+        Some(size) => Ok(size),
+        None => Err(SchemaFault::Form { place: form.from }),
     }
 }
 
