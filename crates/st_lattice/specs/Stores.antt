@@ -1,6 +1,6 @@
 -- What is stored for a schema, by number, and how wide a row of a type is.
-use Rattle.std.specs.Prelude.{ℕ, ◌+◌, ◌*◌, Bool, false, ◌||◌, if◌then◌else◌, List, [], ◌∷◌, ◌++◌, length, map, filter, Option, Some, None, is_some}
-use Rattle.std.specs.List.{sum_by}
+use Rattle.std.specs.Prelude.{ℕ, ◌+◌, ◌*◌, Bool, false, ◌==◌, ◌||◌, if◌then◌else◌, List, [], ◌∷◌, ◌++◌, length, map, filter, flat_map, Option, Some, None, is_some}
+use Rattle.std.specs.List.{list_any, sum_by}
 use Rattle.st_values.specs.declared.value.Kind.{Kind}
 use Rattle.st_values.specs.declared.value.Kind.TheVariants as kind
 use Rattle.st_lattice.specs.declared.attribute.Attribute.{Attribute}
@@ -75,6 +75,25 @@ whole schema a = cell schema a ++ index_of a ++ inverse_of a
 -- the same beside the extents
 abbrev pub aside : Attribute → List ℕ
 aside a = values_of a ++ index_of a ++ inverse_of a
+
+-- where the entities are found whose attribute has a value: its inverse, where it has one, else its index, else its values
+abbrev pub found_by : Outline → Attribute → List ℕ
+found_by schema a = if is_some a.inverse then inverse_of a else if a.index then index_of a else cell schema a
+
+-- the types of the entities that values of a kind are
+abbrev pub kind_types : Outline → Kind → List ℕ
+kind_types schema (kind.Entity ty) = descendants schema ty
+kind_types schema _ = []
+
+-- whether an attribute may refer to an entity of a type
+abbrev pub may_refer : Outline → ℕ → Attribute → Bool
+may_refer schema ty a = list_any (λ t. t == ty) (kind_types schema a.kind)
+
+-- all that changes with an entity of a type that is deleted: its extent, what its attributes have beside it, and all of
+-- the attributes that may refer to it
+abbrev pub deleted : Outline → ℕ → List ℕ
+deleted schema ty =
+    store Extent ty ∷ flat_map aside (attributes_in schema ty) ++ flat_map (whole schema) (filter (may_refer schema ty) schema.attributes)
 
 -- how many bytes the key of a value takes
 abbrev pub key_width : Kind → ℕ

@@ -1,8 +1,6 @@
 -- The footprint of a statement: the stores that it may look at or change, by number.
 use Rattle.std.specs.Prelude.{ℕ, Bool, ◌==◌, List, [], ◌∷◌, ◌++◌, filter, flat_map, Option, Some, None}
 use Rattle.std.specs.List.{list_any}
-use Rattle.st_values.specs.declared.value.Kind.{Kind}
-use Rattle.st_values.specs.declared.value.Kind.TheVariants as kind
 use Rattle.st_values.specs.declared.value.Value.{Value}
 use Rattle.st_values.specs.declared.value.Value.TheVariants as value
 use Rattle.st_lattice.specs.declared.attribute.Attribute.{Attribute}
@@ -12,7 +10,7 @@ use Rattle.st_lattice.specs.declared.called.Called.TheVariants.{Nothing, Own, In
 use Rattle.st_lattice.specs.Outline.{Outline, type_named}
 use Rattle.st_lattice.specs.Lattice.{descendants, attributes_in, attribute_of}
 use Rattle.st_lattice.specs.Called.{called}
-use Rattle.st_lattice.specs.Stores.{store, stores_of, extents, index_of, inverse_of, cell, whole, aside}
+use Rattle.st_lattice.specs.Stores.{store, stores_of, extents, index_of, inverse_of, cell, whole, aside, kind_types, deleted}
 use Rattle.st_query.specs.declared.query.Query.{Query}
 use Rattle.st_query.specs.declared.statement.Cell.{Cell}
 use Rattle.st_query.specs.declared.statement.Statement.{Statement}
@@ -77,10 +75,6 @@ abbrev pub value_types : Value → List ℕ
 value_types (value.Entity e) = e.ty ∷ []
 value_types _ = []
 
-abbrev pub kind_types : Outline → Kind → List ℕ
-kind_types schema (kind.Entity ty) = descendants schema ty
-kind_types schema _ = []
-
 abbrev pub feature_types : Outline → Called Attribute → List ℕ
 feature_types schema Nothing = []
 feature_types schema (Own a) = kind_types schema a.kind
@@ -95,15 +89,6 @@ abbrev pub possible_types : Outline → List Variable → List (List ℕ) → St
 possible_types schema variables [] start = start_types schema variables start
 possible_types schema variables (name ∷ names) start = feature_types schema (called schema name)
 
--- whether an attribute may refer to an entity of a type
-abbrev pub may_refer : Outline → ℕ → Attribute → Bool
-may_refer schema ty a = list_any (λ t. t == ty) (kind_types schema a.kind)
-
--- an entity of a type that is deleted: its extent, its attributes, and all attributes that may refer to it
-abbrev pub delete_stores : Outline → ℕ → List ℕ
-delete_stores schema ty =
-    store Extent ty ∷ flat_map aside (attributes_in schema ty) ++ flat_map (whole schema) (filter (may_refer schema ty) schema.attributes)
-
 -- a query: the entities of its type, and all that has to do with the attributes that its terms name
 abbrev pub query_stores : Outline → Query → Option ℕ → List ℕ
 query_stores schema query None = []
@@ -117,7 +102,7 @@ effect_stores schema variables (Make var ty cells) = make_stores schema (type_na
 effect_stores schema variables (Set feature target written) = whole_called schema (called schema feature)
 effect_stores schema variables (Add feature target written) = whole_called schema (called schema feature)
 effect_stores schema variables (Take feature target written) = whole_called schema (called schema feature)
-effect_stores schema variables (Delete target) = flat_map (delete_stores schema) (possible_types schema variables (way target).features (way target).start)
+effect_stores schema variables (Delete target) = flat_map (deleted schema) (possible_types schema variables (way target).features (way target).start)
 effect_stores schema variables (Find var ty key written) = find_stores schema key (type_named schema ty)
 effect_stores schema variables (Ensure var ty cells) = make_stores schema (type_named schema ty) ++ cells_stores schema cells (type_named schema ty)
 effect_stores schema variables (ForEach query) = query_stores schema query (type_named schema query.ty)

@@ -94,6 +94,10 @@ with_value attribute entity value triples = with_triple (record { attribute = at
 abbrev pub value_set : ℕ → EntityId → Value → List Triple → List Triple
 value_set attribute entity value triples = with_value attribute entity value (filter (λ triple. not (is_at attribute entity triple)) triples)
 
+-- whether an attribute of an entity has a value, or has it in its set
+abbrev pub has_value : State → ℕ → EntityId → Value → Bool
+has_value state attribute entity value = list_any (same_triple (record { attribute = attribute; entity = entity; value = value })) state.triples
+
 -- triples with one more, where it isn't there yet
 abbrev pub triple_added : Triple → List Triple → List Triple
 triple_added t triples = if list_any (same_triple t) triples then triples else with_triple t triples
