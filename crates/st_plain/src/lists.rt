@@ -1,12 +1,16 @@
 //! Triples and entities, kept in order.
-ghost use Rattle.std.specs.Prelude.{◌≡◌, ◌≤◌, ◌==◌, ◌&&◌, ◌||◌, length, not, filter, find, IfOk, OnOk, OnErr};
-ghost use Rattle.std.specs.List.{position_or_len};
-ghost use Rattle.std.specs.Option.{option_copied};
+ghost use Rattle.std.specs.Prelude.{◌≡◌, ◌≤◌, ◌==◌, ◌&&◌, ◌||◌, length, not, filter, find, Some, IfOk, OnOk, OnErr};
+ghost use Rattle.std.specs.List.{list_any, position_or_len};
+ghost use Rattle.std.specs.Option.{option_copied, option_map};
 ghost use Rattle.std.specs.Vec.{vec_len, vec_capacity};
 ghost use Rattle.st_values.specs.Order.{entity_before, same_entity, value_before, same_value};
-ghost use Rattle.st_state.specs.State.{with_entity, is_at, triple_before, with_triple, value_at, values_at, turned, value_set};
+ghost use Rattle.st_state.specs.State.{with_entity, is_at, triple_before, with_triple, same_triple, speaks_of, triple_added, triple_taken, value_at, values_at, turned, value_set};
+ghost use Rattle.st_values.specs.declared.value.Value.TheVariants.{Entity};
+ghost use Rattle.st_lattice.specs.Lattice.{isa};
+ghost use Rattle.st_state.specs.Bases.{is_other};
 
 use sqlite_items::Items;
+use st_lattice::Schema;
 use st_state::Triple;
 use st_values::{
     Duplicate, Entities, EntityId, Value, Values, compare_entities, is_before, is_entity_before,
@@ -185,4 +189,135 @@ pub fn set_value(
             },
         ),
     }
+}
+
+/// Whether an entity is among some.
+pub fn has_entity(entities: &[EntityId], entity: EntityId) -> bool
+    ensures { result ≡ list_any (same_entity entity) entities.now }
+{
+    entities.iter().any(|other| is_same_entity(entity, *other))
+}
+
+/// Takes an entity out.
+pub fn take_entity(entities: &mut Vec<EntityId>, entity: EntityId)
+    ensures { entities.new.items ≡ filter (λ other. not (same_entity other entity)) entities.old.items }
+{
+    entities.retain(|other| !is_same_entity(*other, entity));
+}
+
+/// The entities that are of a type, in order.
+pub fn entities_of(
+    alloc: Global,
+    schema: &Schema,
+    entities: &[EntityId],
+    ty: u16,
+) -> Result<Entities, AllocError>
+    ensures { IfOk result (λ found. found ≡ filter (λ e. isa schema.now e.ty ty) entities.now) }
+{
+    let mut found = Items::new(alloc);
+    for entity in entities {
+        if schema.isa(entity.ty, ty) {
+            found.push(*entity)?;
+        }
+    }
+    Ok(found)
+}
+
+fn is_same_triple(a: &Triple, b: &Triple) -> bool
+    ensures { result ≡ same_triple a.now b.now }
+{
+    a.attribute == b.attribute && is_rest_same(a, b)
+}
+
+fn is_rest_same(a: &Triple, b: &Triple) -> bool
+    ensures { result ≡ (same_entity a.now.entity b.now.entity && same_value a.now.value b.now.value) }
+{
+    is_same_entity(a.entity, b.entity) && is_same(&a.value, &b.value)
+}
+
+/// Whether a triple is among some.
+pub fn has_triple(triples: &[Triple], triple: &Triple) -> bool
+    ensures { result ≡ list_any (same_triple triple.now) triples.now }
+{
+    triples.iter().any(|other| is_same_triple(triple, other))
+}
+
+/// Adds a triple in its place, where it isn't there yet. Whether it wasn't.
+pub fn add_triple(triples: &mut Vec<Triple>, triple: Triple) -> Result<bool, AllocError>
+    ensures ok { IfOk result (λ changed. changed ≡ not (list_any (same_triple triple) triples.old.items)) }
+    ensures added { OnOk result (triples.new.items ≡ triple_added triple triples.old.items) }
+    ensures err { OnErr result (triples.new.items ≡ triples.old.items) }
+{
+    if has_triple(triples, &triple) {
+        return Ok(false);
+    }
+    triples.reserve(1)?;
+    put_triple(triples, triple)?;
+    Ok(true)
+}
+
+/// Takes a triple out.
+pub fn take_triple(triples: &mut Vec<Triple>, triple: &Triple)
+    ensures { triples.new.items ≡ triple_taken triple.now triples.old.items }
+{
+    triples.retain(|other| !is_same_triple(triple, other));
+}
+
+fn is_reference(entity: EntityId, triple: &Triple) -> bool
+    ensures { result ≡ same_value triple.now.value (Entity entity) }
+{
+    is_same(&triple.value, &Value::Entity(entity))
+}
+
+fn speaks_of(entity: EntityId, triple: &Triple) -> bool
+    ensures { result ≡ speaks_of entity triple.now }
+{
+    is_same_entity(triple.entity, entity) || is_reference(entity, triple)
+}
+
+/// Takes out all triples of an entity, and each reference to it.
+pub fn take_all_of(triples: &mut Vec<Triple>, entity: EntityId)
+    ensures { triples.new.items ≡ filter (λ t. not (speaks_of entity t)) triples.old.items }
+{
+    triples.retain(|triple| !speaks_of(entity, triple));
+}
+
+fn is_others(attribute: u16, entity: EntityId, value: &Value, triple: &Triple) -> bool
+    ensures { result ≡ (((triple.now.attribute == attribute) && same_value triple.now.value value.now) && not (same_entity entity triple.now.entity)) }
+{
+    has_value(attribute, value, triple) && !is_same_entity(entity, triple.entity)
+}
+
+fn find_other<'a>(
+    triples: &'a [Triple],
+    attribute: u16,
+    entity: EntityId,
+    value: &Value,
+) -> Option<&'a Triple>
+    ensures { option_copied result ≡ find (λ t. ((t.attribute == attribute) && same_value t.value value.now) && not (same_entity entity t.entity)) triples.now }
+{
+    triples
+        .iter()
+        .find(|triple| is_others(attribute, entity, value, triple))
+}
+
+fn entity_of(triple: Option<&Triple>) -> Option<EntityId>
+    ensures { result ≡ option_map (λ t. t.entity) (option_copied triple.entry) }
+{
+    match triple {
+        Some(triple) => Some(triple.entity),
+        None => None,
+    }
+}
+
+/// The least other entity whose attribute has a value.
+pub fn other_with(
+    triples: &[Triple],
+    attribute: u16,
+    entity: EntityId,
+    value: &Value,
+) -> Option<EntityId>
+    ensures { result ≡ find (is_other (Some entity)) (turned attribute value.now triples.now) }
+{
+    entity_of(find_other(triples, attribute, entity, value))
 }

@@ -1,8 +1,8 @@
 ghost use Rattle.std.specs.Prelude.{◌≡◌, ◌+◌, ◌<◌, ◌^◌, length, slice_index, IfOk, OnOk, OnErr};
 ghost use Rattle.st_state.specs.State.{empty_state, next_entity, entity_made, attribute_set, value_at, values_at, turned};
 
-use crate::lists;
-use st_lattice::Schema;
+use crate::{lists, rules};
+use st_lattice::{Attribute, Schema};
 use st_state::Triple;
 use st_values::{Entities, EntityId, Value, Values};
 use std::alloc::{AllocError, Global};
@@ -11,10 +11,12 @@ use std::marker::Model;
 /// A state of a database, held as lists.
 #[derive(Drop)]
 pub struct Plain {
-    schema: Schema,
-    live: Vec<EntityId>,
-    triples: Vec<Triple>,
-    last: Vec<u32>,
+    pub(crate) schema: Schema,
+    // The schema's attributes, in the order of their numbers.
+    pub(crate) by_number: Vec<Attribute>,
+    pub(crate) live: Vec<EntityId>,
+    pub(crate) triples: Vec<Triple>,
+    pub(crate) last: Vec<u32>,
 }
 
 impl Model for Plain {
@@ -25,7 +27,10 @@ impl Model for Plain {
 
     ghost view = { λ it. record { schema = it.schema; live = it.live.items; triples = it.triples.items; last = it.last.items } };
 
-    ghost invariant = { λ it. length it.last.items ≡ length it.schema.names };
+    ghost use Rattle.st_plain.specs.Lists.{number_before};
+    ghost use Rattle.st_values.specs.Arranged.{arranged};
+
+    ghost invariant = { λ it. (length it.last.items ≡ length it.schema.names) × (it.by_number.items ≡ arranged number_before it.schema.attributes) };
 }
 
 impl Plain {
@@ -35,8 +40,10 @@ impl Plain {
     {
         let count = schema.type_names().len();
         let last = vec![in alloc; 0u32; count]?;
+        let by_number = rules::by_number(alloc, schema.attributes())?;
         Ok(Plain {
             schema,
+            by_number,
             live: Vec::new(alloc),
             triples: Vec::new(alloc),
             last,
