@@ -1,10 +1,7 @@
 -- What a base is asked: the calls on a state, when each may be made, by which rule it has to be refused, and what it leaves.
 use Rattle.std.specs.Prelude.{ℕ, Bool, true, false, not, ◌&&◌, List, [], ◌∷◌, Option, Some, None, is_some, IsTrue}
 use Rattle.st_values.specs.declared.value.EntityId.{EntityId}
-<<<<<<< HEAD
 use Rattle.st_values.specs.declared.value.Kind.{Kind}
-=======
->>>>>>> d778004d93d328cd3147c6978bec01dc23929ba1
 use Rattle.st_values.specs.declared.value.Value.{Value}
 use Rattle.st_values.specs.declared.value.Value.TheVariants.{Null}
 use Rattle.st_lattice.specs.declared.attribute.Attribute.{Attribute}
