@@ -13,9 +13,7 @@ struct OneByteSink {
 }
 
 impl Sink for OneByteSink {
-    ghost taken = { λ s. Some s.inner.bytes };
-
-    ghost faults = { λ s. s.inner.faults };
+    ghost state = { λ s. record { taken = Some s.inner.bytes; faults = s.inner.faults } };
 
     fn write(&mut self, from: &[u8]) -> Result<usize, Failed> {
         self.inner.write(&from[..from.len().min(1)])
