@@ -1,7 +1,7 @@
 //! What the types of a schema have, its stores, and what its names stand for.
 ghost use Rattle.std.specs.Prelude.{◌<◌, length};
 
-use st_lattice::{Feature, Schema};
+use st_lattice::{Called, Feature, Schema};
 use st_text::Duplicate;
 use std::alloc::{AllocError, Global};
 use std::fmt::Write;
@@ -45,9 +45,7 @@ fn push_numbers(out: &mut String, word: &str, numbers: &[u16]) -> Result<(), All
 }
 
 /// Adds the types that a type is of, each by a question of its own.
-fn push_descents(schema: &Schema, ty: u16, out: &mut String) -> Result<(), AllocError>
-    requires { ty < length schema.now.names }
-{
+fn push_descents(schema: &Schema, ty: u16, out: &mut String) -> Result<(), AllocError> {
     out.push_str("; isa")?;
     for ancestor in 0..schema.type_count() {
         if schema.isa(ty, ancestor) {
@@ -72,26 +70,27 @@ fn push_features(schema: &Schema, out: &mut String) -> Result<(), AllocError> {
             let ty = schema.type_name(feature.ty).as_str();
             let name = feature.name.as_str();
             write!(out, " {ty}.{name}")?;
-            push_feature(out, Some(feature.feature))?;
+            push_feature(out, feature.feature)?;
         }
     }
     Ok(())
 }
 
-/// Adds what a name stands for: `@` for an attribute and `<` for an inverse, with the attribute's number.
-fn push_feature(out: &mut String, feature: Option<Feature>) -> Result<(), AllocError> {
+/// Adds a feature: `@` for an attribute and `<` for an inverse, with the attribute's number.
+fn push_feature(out: &mut String, feature: Feature) -> Result<(), AllocError> {
     match feature {
-        Some(Feature::Attribute(number)) => write!(out, "@{number}"),
-        Some(Feature::Inverse(number)) => write!(out, "<{number}"),
-        None => out.push_str("none"),
+        Feature::Attribute(number) => write!(out, "@{number}"),
+        Feature::Inverse(number) => write!(out, "<{number}"),
     }
 }
 
-/// What a qualified name stands for.
+/// What a qualified name calls, in the same words.
 pub fn feature(alloc: Global, schema: &Schema, name: &[u8]) -> Result<String, AllocError> {
-    let mut out = String::from_str(alloc, " ")?;
-    push_feature(&mut out, schema.lookup(name))?;
-    Ok(out)
+    match schema.called(name) {
+        Called::Own(attribute) => format!(in alloc; " @{}", attribute.number),
+        Called::Inverse(attribute) => format!(in alloc; " <{}", attribute.number),
+        Called::Nothing => String::from_str(alloc, " none"),
+    }
 }
 
 /// The number of the attribute that a type has by a short name.
