@@ -1,8 +1,9 @@
-ghost use Rattle.std.specs.Prelude.{◌≡◌, ℕ, ◌<◌, not, ◌++◌, ◌⊎◌, [], ◌∷◌, List, length, true, is_ok, IsTrue, ⊤};
+ghost use Rattle.std.specs.Prelude.{◌≡◌, ℕ, ◌<◌, not, ◌++◌, ◌⊎◌, [], ◌∷◌, List, length, is_ok, Err, IsTrue, ⊤};
 ghost use Rattle.st_values.specs.declared.value.EntityId.{EntityId};
 ghost use Rattle.st_lattice.specs.Outline.{Outline};
 ghost use Rattle.st_state.specs.State.{State, is_live, has_value, next_entity, entities_of, value_at, values_at, turned};
 ghost use Rattle.st_state.specs.Calls.{Call, Live, Make, Get, Set, Members, Add, Take, Turned, Delete, Listed, HasAttribute, HasSingle, HasSet, CanHold, CanBe};
+ghost use Rattle.st_plain.specs.declared.fault.BaseFault.TheVariants.{Memory};
 ghost use Rattle.st_plain.specs.Base.{Met, Gives, IsOwn, TellsMet, fault_behind, Asked, Reaches};
 
 use crate::BaseFault;
@@ -40,6 +41,9 @@ pub trait Base {
     // Between two values no more was asked of the pages of a witness than these calls ask.
     ghost asks: { Self → Self → Witness → List Asked → Type 0 };
 
+    // What a call leaves as it was where memory wants: of lists all, of pages nothing.
+    ghost spared: { Self → Self → Type 0 };
+
     // In a witness, the page was got that has the value of an attribute of an entity.
     ghost reached: { Self → Witness → EntityId → ℕ → Type 0 };
 
@@ -47,6 +51,7 @@ pub trait Base {
     fn live(&mut self, alloc: Global, entity: EntityId) -> Result<bool, BaseFault>
         ensures gives { (w : Witness) (s : State) → agrees self.new w → stands self.old w s →
             Gives (stands self.new w) s (Live entity) (λ live. live ≡ is_live s entity) result }
+        ensures memory { result ≡ Err Memory → spared self.old self.new }
         ensures own { IsOwn (Live entity) result }
         ensures met { TellsMet (met self.old) (met self.new) (fault_behind result) }
         ensures follows { follows self.old self.new }
@@ -58,6 +63,7 @@ pub trait Base {
         requires { ty < length (schema self.old).names }
         ensures gives { (w : Witness) (s : State) → agrees self.new w → stands self.old w s →
             Gives (stands self.new w) s (Make ty) (λ entity. entity ≡ next_entity s ty) result }
+        ensures memory { result ≡ Err Memory → spared self.old self.new }
         ensures own { IsOwn (Make ty) result }
         ensures met { TellsMet (met self.old) (met self.new) (fault_behind result) }
         ensures follows { follows self.old self.new }
@@ -69,6 +75,7 @@ pub trait Base {
         requires { (w : Witness) (s : State) → agrees self.old w → stands self.old w s → HasSingle s entity attribute }
         ensures gives { (w : Witness) (s : State) → agrees self.new w → stands self.old w s →
             Gives (stands self.new w) s (Get entity attribute) (λ value. value ≡ value_at attribute entity s.triples) result }
+        ensures memory { result ≡ Err Memory → spared self.old self.new }
         ensures own { IsOwn (Get entity attribute) result }
         ensures met { TellsMet (met self.old) (met self.new) (fault_behind result) }
         ensures follows { follows self.old self.new }
@@ -89,6 +96,7 @@ pub trait Base {
         requires value { (w : Witness) (s : State) → agrees self.old w → stands self.old w s → CanBe s attribute value.now }
         ensures gives { (w : Witness) (s : State) → agrees self.new w → stands self.old w s →
             Gives (stands self.new w) s (Set entity attribute value.now) (λ _. ⊤) result }
+        ensures memory { result ≡ Err Memory → spared self.old self.new }
         ensures own { IsOwn (Set entity attribute value.now) result }
         ensures met { TellsMet (met self.old) (met self.new) (fault_behind result) }
         ensures follows { follows self.old self.new }
@@ -108,6 +116,7 @@ pub trait Base {
         requires { (w : Witness) (s : State) → agrees self.old w → stands self.old w s → HasSet s entity attribute }
         ensures gives { (w : Witness) (s : State) → agrees self.new w → stands self.old w s →
             Gives (stands self.new w) s (Members entity attribute) (λ values. values ≡ values_at attribute entity s.triples) result }
+        ensures memory { result ≡ Err Memory → spared self.old self.new }
         ensures own { IsOwn (Members entity attribute) result }
         ensures met { TellsMet (met self.old) (met self.new) (fault_behind result) }
         ensures follows { follows self.old self.new }
@@ -126,6 +135,7 @@ pub trait Base {
         requires value { (w : Witness) (s : State) → agrees self.old w → stands self.old w s → CanHold s attribute value.now }
         ensures gives { (w : Witness) (s : State) → agrees self.new w → stands self.old w s →
             Gives (stands self.new w) s (Add entity attribute value.now) (λ changed. changed ≡ not (has_value s attribute entity value.now)) result }
+        ensures memory { result ≡ Err Memory → spared self.old self.new }
         ensures own { IsOwn (Add entity attribute value.now) result }
         ensures met { TellsMet (met self.old) (met self.new) (fault_behind result) }
         ensures follows { follows self.old self.new }
@@ -144,6 +154,7 @@ pub trait Base {
         requires value { (w : Witness) (s : State) → agrees self.old w → stands self.old w s → CanHold s attribute value.now }
         ensures gives { (w : Witness) (s : State) → agrees self.new w → stands self.old w s →
             Gives (stands self.new w) s (Take entity attribute value.now) (λ changed. changed ≡ has_value s attribute entity value.now) result }
+        ensures memory { result ≡ Err Memory → spared self.old self.new }
         ensures own { IsOwn (Take entity attribute value.now) result }
         ensures met { TellsMet (met self.old) (met self.new) (fault_behind result) }
         ensures follows { follows self.old self.new }
@@ -161,6 +172,7 @@ pub trait Base {
         requires value { (w : Witness) (s : State) → agrees self.old w → stands self.old w s → CanHold s attribute value.now }
         ensures gives { (w : Witness) (s : State) → agrees self.new w → stands self.old w s →
             Gives (stands self.new w) s (Turned attribute value.now) (λ entities. entities ≡ turned attribute value.now s.triples) result }
+        ensures memory { result ≡ Err Memory → spared self.old self.new }
         ensures own { IsOwn (Turned attribute value.now) result }
         ensures met { TellsMet (met self.old) (met self.new) (fault_behind result) }
         ensures follows { follows self.old self.new }
@@ -173,6 +185,7 @@ pub trait Base {
         requires { (w : Witness) (s : State) → agrees self.old w → stands self.old w s → IsTrue (is_live s entity) }
         ensures gives { (w : Witness) (s : State) → agrees self.new w → stands self.old w s →
             Gives (stands self.new w) s (Delete entity) (λ _. ⊤) result }
+        ensures memory { result ≡ Err Memory → spared self.old self.new }
         ensures own { IsOwn (Delete entity) result }
         ensures met { TellsMet (met self.old) (met self.new) (fault_behind result) }
         ensures follows { follows self.old self.new }
@@ -184,6 +197,7 @@ pub trait Base {
         requires { ty < length (schema self.old).names }
         ensures gives { (w : Witness) (s : State) → agrees self.new w → stands self.old w s →
             Gives (stands self.new w) s (Listed ty) (λ entities. entities ≡ entities_of s ty) result }
+        ensures memory { result ≡ Err Memory → spared self.old self.new }
         ensures own { IsOwn (Listed ty) result }
         ensures met { TellsMet (met self.old) (met self.new) (fault_behind result) }
         ensures follows { follows self.old self.new }

@@ -3,6 +3,7 @@
 
 mod base;
 mod calls;
+mod copy;
 mod fault;
 mod lists;
 mod met;

@@ -25,6 +25,8 @@ impl Base for Plain {
 
     ghost asks = { λ _ _ _ _. ⊤ };
 
+    ghost spared = { λ old new. new ≡ old };
+
     ghost reached = { λ _ _ _ _. ⊤ };
 
     ghost follows_itself = { λ _. refl };

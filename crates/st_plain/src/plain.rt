@@ -1,4 +1,4 @@
-ghost use Rattle.std.specs.Prelude.{◌≡◌, ◌+◌, ◌<◌, ◌^◌, length, slice_index, IfOk, OnOk, OnErr};
+ghost use Rattle.std.specs.Prelude.{◌≡◌, ◌+◌, ◌<◌, ◌^◌, [], length, slice_index, IfOk, OnOk, OnErr};
 ghost use Rattle.st_state.specs.State.{empty_state, next_entity, entity_made, attribute_set, value_at, values_at, turned};
 
 use crate::{lists, rules};
@@ -40,6 +40,22 @@ impl Plain {
     {
         let count = schema.type_names().len();
         let last = vec![in alloc; 0u32; count]?;
+        Plain::with_last(alloc, schema, last)
+    }
+
+    /// A state without entities, in which these serials were the last given out: one for each type.
+    pub fn starting(alloc: Global, schema: Schema, last: &[u32]) -> Result<Plain, AllocError>
+        requires { length last.now ≡ length schema.names }
+        ensures { IfOk result (λ plain. plain ≡ record { schema = schema; live = []; triples = []; last = last.now }) }
+    {
+        let last = Vec::from_slice(alloc, last)?;
+        Plain::with_last(alloc, schema, last)
+    }
+
+    fn with_last(alloc: Global, schema: Schema, last: Vec<u32>) -> Result<Plain, AllocError>
+        requires { length last.items ≡ length schema.names }
+        ensures { IfOk result (λ plain. plain ≡ record { schema = schema; live = []; triples = []; last = last.items }) }
+    {
         let by_number = rules::by_number(alloc, schema.attributes())?;
         Ok(Plain {
             schema,
