@@ -1,13 +1,11 @@
-// A library with one function.
+//! Scripts as text: how statements, transactions and queries are read from forms.
 #![tactic(auto)]
 
-ghost use Rattle.std.specs.Prelude.{◌≡◌};
-ghost use Rattle.st_reader.specs.Echo.{echo_of};
+mod basic;
+mod fault;
+mod part;
+mod query;
+mod term;
+mod word;
 
-// The `ensures` clause is the contract: what `echo` returns is `echo_of` of its argument, a definition
-// in `specs/Echo.antt`, which a caller's clause can cite too.
-pub fn echo(x: usize) -> usize
-    ensures { result ≡ echo_of x }
-{
-    x
-}
+pub use fault::{Misread, ScriptFault};
