@@ -1,6 +1,6 @@
 -- How queries are written: conditions, order and what is shown.
 use Rattle.std.specs.Prelude.{ℕ, Bool, true, false, if◌then◌else◌, List, [], ◌∷◌, Option, Some, None, Ok, codes}
-use Rattle.std.specs.Option.{option_map, ok_or}
+use Rattle.std.specs.Option.{ok_or}
 use Rattle.st_sexp.specs.declared.form.Form.{Form}
 use Rattle.st_sexp.specs.Views.{is_word}
 use Rattle.st_sexp.specs.Items.{and_then, forms_at, next_at, end_of, behind}
@@ -10,7 +10,6 @@ use Rattle.st_query.specs.declared.query.Key.{Key}
 use Rattle.st_query.specs.declared.query.Query.{Query}
 use Rattle.st_query.specs.declared.query.Sign.{Sign}
 use Rattle.st_query.specs.declared.query.Sign.TheVariants as sign
-use Rattle.st_query.specs.declared.term.Term.{Term}
 use Rattle.st_reader.specs.declared.fault.Misread.TheVariants as misread
 use Rattle.st_reader.specs.Reading.{Reading, read_behind, at_most, some_at, two_names}
 use Rattle.st_reader.specs.Terms.{term_at, one_term, two_terms}

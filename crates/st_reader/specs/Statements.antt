@@ -1,5 +1,5 @@
 -- How statements are written.
-use Rattle.std.specs.Prelude.{ℕ, Bool, if◌then◌else◌, List, [], ◌∷◌, map, Ok, Err, codes}
+use Rattle.std.specs.Prelude.{ℕ, Bool, if◌then◌else◌, List, [], map, Ok, Err, codes}
 use Rattle.st_values.specs.Names.{has}
 use Rattle.st_sexp.specs.declared.form.Form.{Form}
 use Rattle.st_sexp.specs.Views.{is_word}
@@ -43,10 +43,10 @@ target_parts place parts = and_then (next_at misread.Form place parts) (λ p. an
 abbrev pub target_at : Form → Reading (List ℕ × Term)
 target_at form = and_then (forms_at misread.Form form) (λ parts. target_parts form.from parts)
 
--- (FEATURE TERM) TERM
-abbrev pub change : (List ℕ → Term → Term → Statement) → ℕ → List Form → Reading Statement
-change made place parts =
-    and_then (next_at misread.Form place parts) (λ p. and_then (target_at (p.0)) (λ t. and_then (one_term place (p.1)) (λ v. Ok (made (t.0) (t.1) v))))
+-- (FEATURE TERM) TERM: the feature, the entity and the value of a change
+abbrev pub change : ℕ → List Form → Reading (List ℕ × Term × Term)
+change place parts =
+    and_then (next_at misread.Form place parts) (λ p. and_then (target_at (p.0)) (λ t. and_then (one_term place (p.1)) (λ v. Ok (t.0, t.1, v))))
 
 -- VAR TYPE (ATTRIBUTE TERM) ..
 abbrev pub make : ℕ → List Form → Reading Statement
@@ -74,21 +74,39 @@ terms_at forms = read_behind (λ before. term_at) [] forms
 abbrev pub print : ℕ → List Form → Reading Statement
 print place parts = and_then (some_at place parts) (λ forms. and_then (terms_at forms) (λ terms. Ok (statement.Print terms)))
 
--- a statement by its head
+-- TERM
+abbrev pub deletion : ℕ → List Form → Reading Statement
+deletion place parts = and_then (one_term place parts) (λ t. Ok (statement.Delete t))
+
+-- (VAR TYPE) and the parts of a query
+abbrev pub for_each : ℕ → List Form → Reading Statement
+for_each place parts = and_then (query place parts) (λ q. Ok (statement.ForEach q))
+
+-- a statement by its head: one that finds, binds, prints or gives up
+abbrev pub other_by : ℕ → Form → List Form → Reading Statement
+other_by place head parts =
+    if is_word head (codes "find") then finding place parts
+    else (if is_word head (codes "let") then binding place parts
+    else (if is_word head (codes "print") then print place parts
+    else (if is_word head (codes "for-each") then for_each place parts
+    else (if is_word head (codes "abort") then end_of misread.Form parts statement.Abort
+    else Err (misread.Form place)))))
+
+-- one that changes a feature
+abbrev pub change_by : ℕ → Form → List Form → Reading Statement
+change_by place head parts =
+    if is_word head (codes "set") then and_then (change place parts) (λ c. Ok (statement.Set (c.0) (c.1) (c.2)))
+    else (if is_word head (codes "add-to-set") then and_then (change place parts) (λ c. Ok (statement.Add (c.0) (c.1) (c.2)))
+    else (if is_word head (codes "delete-from-set") then and_then (change place parts) (λ c. Ok (statement.Take (c.0) (c.1) (c.2)))
+    else other_by place head parts))
+
+-- one that makes or deletes an entity, and all others
 abbrev pub statement_by : ℕ → Form → List Form → Reading Statement
 statement_by place head parts =
     if is_word head (codes "make") then make place parts
-    else (if is_word head (codes "set") then change statement.Set place parts
-    else (if is_word head (codes "add-to-set") then change statement.Add place parts
-    else (if is_word head (codes "delete-from-set") then change statement.Take place parts
-    else (if is_word head (codes "delete-entity") then and_then (one_term place parts) (λ t. Ok (statement.Delete t))
-    else (if is_word head (codes "find") then finding place parts
     else (if is_word head (codes "ensure") then ensure place parts
-    else (if is_word head (codes "let") then binding place parts
-    else (if is_word head (codes "print") then print place parts
-    else (if is_word head (codes "for-each") then and_then (query place parts) (λ q. Ok (statement.ForEach q))
-    else (if is_word head (codes "abort") then end_of misread.Form parts statement.Abort
-    else Err (misread.Form place)))))))))))
+    else (if is_word head (codes "delete-entity") then deletion place parts
+    else change_by place head parts))
 
-abbrev pub statement_at : Form → Reading Statement
+unfoldable pub statement_at : Form → Reading Statement
 statement_at form = and_then (forms_at misread.Form form) (λ parts. and_then (next_at misread.Form form.from parts) (λ p. statement_by form.from (p.0) (p.1)))

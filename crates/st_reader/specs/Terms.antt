@@ -18,7 +18,7 @@ use Rattle.st_query.specs.declared.term.Literal.TheVariants as literal
 use Rattle.st_query.specs.declared.term.Term.{Term}
 use Rattle.st_query.specs.declared.term.Term.TheVariants as term
 use Rattle.st_reader.specs.declared.fault.Misread.TheVariants as misread
-use Rattle.st_reader.specs.Reading.{Reading, read_behind, some_at}
+use Rattle.st_reader.specs.Reading.{Reading}
 
 -- what stands before and behind the first byte of this kind in a word
 abbrev pub halves : ℕ → List ℕ → Option (List ℕ × List ℕ)
