@@ -1,4 +1,4 @@
-ghost use Rattle.std.specs.Prelude.{◌≡◌, ◌↔◌, [], ◌∷◌, length, reverse, IsTrue, IfOk, MatchOption};
+ghost use Rattle.std.specs.Prelude.{◌≡◌, ◌↔◌, [], ◌∷◌, length, reverse, IsTrue, IfOk, OnOk, MatchOption};
 ghost use Rattle.st_sexp.specs.Nested.{front};
 
 use sqlite_items::Items;
@@ -73,5 +73,13 @@ impl<T: Drop> Ahead<T> {
         ensures { MatchOption result ((self.old ≡ []) × (self.new ≡ [])) (λ first. self.old ≡ first ∷ self.new) }
     {
         self.reversed.pop()
+    }
+
+    /// Puts an item back to the front. `AllocError` where there is no memory.
+    pub fn put_back(&mut self, item: T) -> Result<(), AllocError>
+        ensures { OnOk result (self.new ≡ item ∷ self.old) }
+    {
+        self.reversed.push(item)?;
+        Ok(())
     }
 }

@@ -17,7 +17,7 @@ pub use form::{Form, Forms, Shape};
 pub use items::{Misfit, behind, end_of, forms_at, identifier, name_at, next_at};
 pub use laws::laws_of_texts;
 pub use names::is_name;
-pub use nested::{Path, Step, descent, spliced};
+pub use nested::{Path, Step, descent, into_behind, spliced};
 pub use reader::read;
 pub use st_text::Letters;
 pub use st_token::SexpFault;

@@ -90,7 +90,7 @@ pub fn descent(alloc: Global, form: Form) -> Result<Path, AllocError>
 }
 
 /// The forms behind the head of a list, moved, where this word is its head; else the form itself.
-fn into_behind(word: &[u8], form: Form) -> Result<Forms, Form>
+pub fn into_behind(word: &[u8], form: Form) -> Result<Forms, Form>
     ensures { result ≡ ok_or (behind word.now form) form }
 {
     if behind(word, &form).is_none() {

@@ -1,0 +1,5 @@
+mod Numbers
+mod Cells
+mod Written
+mod OneAnswer
+mod Promises
