@@ -202,6 +202,9 @@ def main():
     ran = subprocess.run(["rt", "check"], cwd=crate, stdout=subprocess.PIPE, text=True, check=False)
     found = [line for line in ran.stdout.splitlines() if "error" in line or line.startswith("fn st_drawn")]
     print("\n".join(found))
+    if ran.returncode and not found:
+        print(f"the check ended with status {ran.returncode} and judged nothing; the crate is {crate}")
+        return 2
     if ran.returncode:
         print(f"differing clauses are named above; the crate is {crate}")
         return 1
