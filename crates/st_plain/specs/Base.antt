@@ -1,7 +1,8 @@
 -- What each call of a base gives, whatever holds the state: lists, or pages of which it sees one after the other.
-use Rattle.std.specs.Prelude.{◌≡◌, ℕ, ◌-◌, ◌^◌, ◌<◌, ◌≤◌, ◌==◌, Bool, true, false, List, flat_map, Option, Some, None, Result, Ok, Err, IsTrue, ⊤}
+use Rattle.std.specs.Prelude.{◌≡◌, ℕ, ◌≤◌, ◌==◌, Bool, true, false, List, flat_map, Option, Some, None, Result, Ok, Err, IsTrue, ⊤}
 use Rattle.std.specs.List.{list_any, sum_by}
 use Rattle.std.specs.Option.{ForSome}
+use Rattle.st_edge.specs.Faults.{Rose}
 use Rattle.st_page.specs.declared.fault.PageFault.{PageFault}
 use Rattle.st_page.specs.declared.fault.PageFault.TheVariants as page
 use Rattle.st_state.specs.declared.refusal.Refusal.{Refusal}
@@ -51,10 +52,6 @@ IsOwn call _ = ⊤
 pub record Met : Type 0 where
   pub count : ℕ
   pub last : Option PageFault
-
--- a count rose, or stands at its greatest value
-abbrev pub Rose : ℕ → ℕ → Type 0
-Rose old new = new < 2 ^ 64 - 1 → old < new
 
 -- the fault of pages behind a refusal
 abbrev pub behind : Refusal → Option PageFault

@@ -24,13 +24,13 @@ pub of_fault : (input : List ℕ) (fault : SexpFault) (line : List ℕ) → Due 
 of_fault input fault line due is = (Err fault, due, is)
 
 -- what a program of the thin form prints answers its input
-pub printed : (input : List ℕ) (program : ProgramOf) (old new : SinkState) (ended : Ended) → IsThin input program → Prints (printed_by program) old new ended → Answers input old new ended
-printed input program old new Done thin took = (program, thin, took)
-printed input program old new SinkFailed thin (rose, took) = (program, thin, rose, took)
-printed input program old new OutOfMemory thin (n, took) = (take n (printed_by program), inr (program, thin, n, refl), took)
-printed input program old new Refused thin never = absurd never
-printed input program old new SourceFailed thin never = absurd never
-printed input program old new TooLong thin never = absurd never
+pub printed : (input : List ℕ) (program : ProgramOf) (old new : SinkState) (ended : Ended) → length input ≤ 1048576 → IsThin input program → Prints (printed_by program) old new ended → Answers input old new ended
+printed input program old new Done short thin took = (program, thin, took)
+printed input program old new SinkFailed short thin (rose, took) = (program, thin, rose, took)
+printed input program old new OutOfMemory short thin (n, took) = (take n (printed_by program), inr (short, program, thin, n, refl), took)
+printed input program old new Refused short thin never = absurd never
+printed input program old new SourceFailed short thin never = absurd never
+printed input program old new TooLong short thin never = absurd never
 
 -- the line of want of memory alone
 pub wanted : (input : List ℕ) (old new : SinkState) → Takes old new (fault_line (codes "memory")) → Answers input old new OutOfMemory
