@@ -1,8 +1,8 @@
-ghost use Rattle.std.specs.Prelude.{◌≡◌, ℕ, ◌<◌, not, ◌++◌, ◌⊎◌, [], ◌∷◌, List, length, is_ok, Err, IsTrue, ⊤};
+ghost use Rattle.std.specs.Prelude.{◌≡◌, ℕ, ◌<◌, not, ◌++◌, ◌⊎◌, [], ◌∷◌, List, length, is_ok, Err, ⊤};
 ghost use Rattle.st_values.specs.declared.value.EntityId.{EntityId};
 ghost use Rattle.st_lattice.specs.Outline.{Outline};
 ghost use Rattle.st_state.specs.State.{State, is_live, has_value, next_entity, entities_of, value_at, values_at, turned};
-ghost use Rattle.st_state.specs.Calls.{Call, Live, Make, Get, Set, Members, Add, Take, Turned, Delete, Listed, HasAttribute, HasSingle, HasSet, CanHold, CanBe};
+ghost use Rattle.st_state.specs.Calls.{Call, Live, Make, Get, Set, Members, Add, Take, Turned, Delete, Listed, HasAttribute, Admits};
 ghost use Rattle.st_plain.specs.declared.fault.BaseFault.TheVariants.{Memory};
 ghost use Rattle.st_plain.specs.Base.{Met, Gives, IsOwn, TellsMet, fault_behind, Asked, Reaches};
 
@@ -13,9 +13,10 @@ use std::alloc::Global;
 /// What a statement runs over: lists, or pages that are asked for one after the other.
 ///
 /// What stands in pages that a base has not seen yet is told by a witness: a whole page array, of which the base has seen
-/// a part. Lists are seen whole, and their witness is nothing. A condition of a call speaks of each witness that agrees
-/// with what was seen before the call; what the call gives, of each that agrees with what was seen behind it. So a call may
-/// learn of pages.
+/// a part. Lists are seen whole, and their witness is nothing. What a call gives is said of each witness that agrees with
+/// what was seen behind the call, and of each state that it stood for before and that admits the call. So a call may learn
+/// of pages, and a caller follows the states that it began with from call to call. A call that no state admits is safe,
+/// and nothing is said of what it gives.
 ///
 /// Attributes and types are given by number. After `BaseFault::Page`, and where pages refused, nothing more is promised of
 /// the state, and what was begun can only be given up.
@@ -72,16 +73,15 @@ pub trait Base {
 
     /// A copy of the value of a single-valued attribute of an entity.
     fn get(&mut self, alloc: Global, entity: EntityId, attribute: u16) -> Result<Value, BaseFault>
-        requires { (w : Witness) (s : State) → agrees self.old w → stands self.old w s → HasSingle s entity attribute }
-        ensures gives { (w : Witness) (s : State) → agrees self.new w → stands self.old w s →
+        ensures gives { (w : Witness) (s : State) → agrees self.new w → stands self.old w s → Admits s (Get entity attribute) →
             Gives (stands self.new w) s (Get entity attribute) (λ value. value ≡ value_at attribute entity s.triples) result }
         ensures memory { result ≡ Err Memory → spared self.old self.new }
         ensures own { IsOwn (Get entity attribute) result }
         ensures met { TellsMet (met self.old) (met self.new) (fault_behind result) }
         ensures follows { follows self.old self.new }
-        ensures asks { (w : Witness) (s : State) → agrees self.new w → stands self.old w s →
+        ensures asks { (w : Witness) (s : State) → agrees self.new w → stands self.old w s → Admits s (Get entity attribute) →
             asks self.old self.new w (record { state = s; call = Get entity attribute; answered = is_ok result } ∷ []) }
-        ensures reached { (w : Witness) (s : State) → agrees self.new w → stands self.old w s → Reaches (reached self.new w entity attribute) result };
+        ensures reached { (w : Witness) (s : State) → agrees self.new w → stands self.old w s → Admits s (Get entity attribute) → Reaches (reached self.new w entity attribute) result };
 
     /// Sets a single-valued attribute of an entity; null where it is to have no value. Refused by rule 4 where another entity
     /// has the value of a unique attribute. The page of the value is got before anything is changed.
@@ -92,18 +92,16 @@ pub trait Base {
         attribute: u16,
         value: &Value,
     ) -> Result<(), BaseFault>
-        requires has { (w : Witness) (s : State) → agrees self.old w → stands self.old w s → HasSingle s entity attribute }
-        requires value { (w : Witness) (s : State) → agrees self.old w → stands self.old w s → CanBe s attribute value.now }
-        ensures gives { (w : Witness) (s : State) → agrees self.new w → stands self.old w s →
+        ensures gives { (w : Witness) (s : State) → agrees self.new w → stands self.old w s → Admits s (Set entity attribute value.now) →
             Gives (stands self.new w) s (Set entity attribute value.now) (λ _. ⊤) result }
         ensures memory { result ≡ Err Memory → spared self.old self.new }
         ensures own { IsOwn (Set entity attribute value.now) result }
         ensures met { TellsMet (met self.old) (met self.new) (fault_behind result) }
         ensures follows { follows self.old self.new }
-        ensures asks { (w : Witness) (s : State) → agrees self.new w → stands self.old w s →
+        ensures asks { (w : Witness) (s : State) → agrees self.new w → stands self.old w s → Admits s (Set entity attribute value.now) →
             asks self.old self.new w (record { state = s; call = Set entity attribute value.now; answered = is_ok result } ∷ []) }
-        ensures reached { (w : Witness) (s : State) → agrees self.new w → stands self.old w s → Reaches (reached self.new w entity attribute) result }
-        ensures first { (w : Witness) (s : State) → agrees self.new w → stands self.old w s →
+        ensures reached { (w : Witness) (s : State) → agrees self.new w → stands self.old w s → Admits s (Set entity attribute value.now) → Reaches (reached self.new w entity attribute) result }
+        ensures first { (w : Witness) (s : State) → agrees self.new w → stands self.old w s → Admits s (Set entity attribute value.now) →
             reached self.new w entity attribute ⊎ asks self.old self.new w (record { state = s; call = Get entity attribute; answered = is_ok result } ∷ []) };
 
     /// Copies of the values in the set of an attribute of an entity, in order.
@@ -113,14 +111,13 @@ pub trait Base {
         entity: EntityId,
         attribute: u16,
     ) -> Result<Values, BaseFault>
-        requires { (w : Witness) (s : State) → agrees self.old w → stands self.old w s → HasSet s entity attribute }
-        ensures gives { (w : Witness) (s : State) → agrees self.new w → stands self.old w s →
+        ensures gives { (w : Witness) (s : State) → agrees self.new w → stands self.old w s → Admits s (Members entity attribute) →
             Gives (stands self.new w) s (Members entity attribute) (λ values. values ≡ values_at attribute entity s.triples) result }
         ensures memory { result ≡ Err Memory → spared self.old self.new }
         ensures own { IsOwn (Members entity attribute) result }
         ensures met { TellsMet (met self.old) (met self.new) (fault_behind result) }
         ensures follows { follows self.old self.new }
-        ensures asks { (w : Witness) (s : State) → agrees self.new w → stands self.old w s →
+        ensures asks { (w : Witness) (s : State) → agrees self.new w → stands self.old w s → Admits s (Members entity attribute) →
             asks self.old self.new w (record { state = s; call = Members entity attribute; answered = is_ok result } ∷ []) };
 
     /// Puts a value into the set of an attribute of an entity. Whether it was not there before.
@@ -131,15 +128,13 @@ pub trait Base {
         attribute: u16,
         value: &Value,
     ) -> Result<bool, BaseFault>
-        requires has { (w : Witness) (s : State) → agrees self.old w → stands self.old w s → HasSet s entity attribute }
-        requires value { (w : Witness) (s : State) → agrees self.old w → stands self.old w s → CanHold s attribute value.now }
-        ensures gives { (w : Witness) (s : State) → agrees self.new w → stands self.old w s →
+        ensures gives { (w : Witness) (s : State) → agrees self.new w → stands self.old w s → Admits s (Add entity attribute value.now) →
             Gives (stands self.new w) s (Add entity attribute value.now) (λ changed. changed ≡ not (has_value s attribute entity value.now)) result }
         ensures memory { result ≡ Err Memory → spared self.old self.new }
         ensures own { IsOwn (Add entity attribute value.now) result }
         ensures met { TellsMet (met self.old) (met self.new) (fault_behind result) }
         ensures follows { follows self.old self.new }
-        ensures asks { (w : Witness) (s : State) → agrees self.new w → stands self.old w s →
+        ensures asks { (w : Witness) (s : State) → agrees self.new w → stands self.old w s → Admits s (Add entity attribute value.now) →
             asks self.old self.new w (record { state = s; call = Add entity attribute value.now; answered = is_ok result } ∷ []) };
 
     /// Takes a value out of the set of an attribute of an entity. Whether it was there.
@@ -150,15 +145,13 @@ pub trait Base {
         attribute: u16,
         value: &Value,
     ) -> Result<bool, BaseFault>
-        requires has { (w : Witness) (s : State) → agrees self.old w → stands self.old w s → HasSet s entity attribute }
-        requires value { (w : Witness) (s : State) → agrees self.old w → stands self.old w s → CanHold s attribute value.now }
-        ensures gives { (w : Witness) (s : State) → agrees self.new w → stands self.old w s →
+        ensures gives { (w : Witness) (s : State) → agrees self.new w → stands self.old w s → Admits s (Take entity attribute value.now) →
             Gives (stands self.new w) s (Take entity attribute value.now) (λ changed. changed ≡ has_value s attribute entity value.now) result }
         ensures memory { result ≡ Err Memory → spared self.old self.new }
         ensures own { IsOwn (Take entity attribute value.now) result }
         ensures met { TellsMet (met self.old) (met self.new) (fault_behind result) }
         ensures follows { follows self.old self.new }
-        ensures asks { (w : Witness) (s : State) → agrees self.new w → stands self.old w s →
+        ensures asks { (w : Witness) (s : State) → agrees self.new w → stands self.old w s → Admits s (Take entity attribute value.now) →
             asks self.old self.new w (record { state = s; call = Take entity attribute value.now; answered = is_ok result } ∷ []) };
 
     /// The entities whose attribute has a value, or has it in its set, in order.
@@ -168,28 +161,26 @@ pub trait Base {
         attribute: u16,
         value: &Value,
     ) -> Result<Entities, BaseFault>
-        requires there { HasAttribute (schema self.old) attribute }
-        requires value { (w : Witness) (s : State) → agrees self.old w → stands self.old w s → CanHold s attribute value.now }
-        ensures gives { (w : Witness) (s : State) → agrees self.new w → stands self.old w s →
+        requires { HasAttribute (schema self.old) attribute }
+        ensures gives { (w : Witness) (s : State) → agrees self.new w → stands self.old w s → Admits s (Turned attribute value.now) →
             Gives (stands self.new w) s (Turned attribute value.now) (λ entities. entities ≡ turned attribute value.now s.triples) result }
         ensures memory { result ≡ Err Memory → spared self.old self.new }
         ensures own { IsOwn (Turned attribute value.now) result }
         ensures met { TellsMet (met self.old) (met self.new) (fault_behind result) }
         ensures follows { follows self.old self.new }
-        ensures asks { (w : Witness) (s : State) → agrees self.new w → stands self.old w s →
+        ensures asks { (w : Witness) (s : State) → agrees self.new w → stands self.old w s → Admits s (Turned attribute value.now) →
             asks self.old self.new w (record { state = s; call = Turned attribute value.now; answered = is_ok result } ∷ []) };
 
     /// Deletes an entity, its values, and each reference to it. Refused by rule 6 where another entity refers to it by an
     /// attribute that admits no null.
     fn delete(&mut self, alloc: Global, entity: EntityId) -> Result<(), BaseFault>
-        requires { (w : Witness) (s : State) → agrees self.old w → stands self.old w s → IsTrue (is_live s entity) }
-        ensures gives { (w : Witness) (s : State) → agrees self.new w → stands self.old w s →
+        ensures gives { (w : Witness) (s : State) → agrees self.new w → stands self.old w s → Admits s (Delete entity) →
             Gives (stands self.new w) s (Delete entity) (λ _. ⊤) result }
         ensures memory { result ≡ Err Memory → spared self.old self.new }
         ensures own { IsOwn (Delete entity) result }
         ensures met { TellsMet (met self.old) (met self.new) (fault_behind result) }
         ensures follows { follows self.old self.new }
-        ensures asks { (w : Witness) (s : State) → agrees self.new w → stands self.old w s →
+        ensures asks { (w : Witness) (s : State) → agrees self.new w → stands self.old w s → Admits s (Delete entity) →
             asks self.old self.new w (record { state = s; call = Delete entity; answered = is_ok result } ∷ []) };
 
     /// The live entities of a type, descendants included, in order.

@@ -1,11 +1,10 @@
-//! A database held as plain lists: the slow program that does what the definitions of a state say.
+//! What statements run over, and a database held as plain lists that meets it.
 #![tactic(auto)]
 
 mod base;
 mod calls;
-mod copy;
+mod entities;
 mod fault;
-mod lists;
 mod met;
 mod plain;
 mod rules;

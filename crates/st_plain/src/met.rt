@@ -1,7 +1,8 @@
 //! How lists meet the contract of a base: their witness is nothing, and they never meet a fault of pages.
 ghost use Rattle.std.specs.Prelude.{◌≡◌};
 
-use crate::{Base, BaseFault, Plain, lists};
+use crate::entities::{entities_of, has_entity};
+use crate::{Base, BaseFault, Plain};
 use st_values::{Entities, EntityId, Value, Values};
 use std::alloc::Global;
 
@@ -13,29 +14,30 @@ impl Base for Plain {
 
     ghost Witness = { ⊤ };
 
-    ghost schema = { λ p. p.schema };
+    ghost schema = { λ p. p.state.schema };
 
     ghost met = { λ _. nothing_met };
 
     ghost agrees = { λ _ _. ⊤ };
 
-    ghost stands = { λ p _ s. p ≡ s };
+    ghost stands = { λ p _ s. p.state ≡ s };
 
-    ghost follows = { λ old new. new.schema ≡ old.schema };
+    // The mark stays.
+    ghost follows = { λ old new. (new.state.schema ≡ old.state.schema) × (new.mark ≡ old.mark) };
 
     ghost asks = { λ _ _ _ _. ⊤ };
 
-    ghost spared = { λ old new. new ≡ old };
+    ghost spared = { λ old new. new.state ≡ old.state };
 
     ghost reached = { λ _ _ _ _. ⊤ };
 
-    ghost follows_itself = { λ _. refl };
+    ghost follows_itself = { λ _. (refl, refl) };
 
-    ghost follows_on = { λ _ _ _ first second. second ∙ first };
+    ghost follows_on = { λ _ _ _ first second. (second.0 ∙ first.0, second.1 ∙ first.1) };
 
     ghost seen_stays = { λ _ _ _ _ _. tt };
 
-    ghost schema_stays = { λ _ _ stayed. stayed };
+    ghost schema_stays = { λ _ _ stayed. stayed.0 };
 
     ghost stands_with_schema = { λ _ _ _ stands. sym (ap (λ s. s.schema) stands) };
 
@@ -46,7 +48,7 @@ impl Base for Plain {
     ghost asks_on = { λ _ _ _ _ _ _ _ _ _ _. tt };
 
     fn live(&mut self, _alloc: Global, entity: EntityId) -> Result<bool, BaseFault> {
-        Ok(lists::has_entity(&self.live, entity))
+        Ok(has_entity(self.live.as_slice(), entity))
     }
 
     fn make(&mut self, alloc: Global, ty: u16) -> Result<EntityId, BaseFault> {
@@ -54,7 +56,7 @@ impl Base for Plain {
     }
 
     fn get(&mut self, alloc: Global, entity: EntityId, attribute: u16) -> Result<Value, BaseFault> {
-        Ok(lists::value_at(alloc, &self.triples, attribute, entity)?)
+        Ok(Plain::get(self, alloc, entity, attribute)?)
     }
 
     fn set(
@@ -73,7 +75,7 @@ impl Base for Plain {
         entity: EntityId,
         attribute: u16,
     ) -> Result<Values, BaseFault> {
-        Ok(lists::values_at(alloc, &self.triples, attribute, entity)?)
+        Ok(Plain::members(self, alloc, entity, attribute)?)
     }
 
     fn add(
@@ -102,7 +104,7 @@ impl Base for Plain {
         attribute: u16,
         value: &Value,
     ) -> Result<Entities, BaseFault> {
-        Ok(lists::turned(alloc, &self.triples, attribute, value)?)
+        Ok(Plain::turned(self, alloc, attribute, value)?)
     }
 
     fn delete(&mut self, alloc: Global, entity: EntityId) -> Result<(), BaseFault> {
@@ -110,6 +112,6 @@ impl Base for Plain {
     }
 
     fn list(&mut self, alloc: Global, ty: u16) -> Result<Entities, BaseFault> {
-        Ok(lists::entities_of(alloc, &self.schema, &self.live, ty)?)
+        Ok(entities_of(alloc, &self.schema, self.live.as_slice(), ty)?)
     }
 }

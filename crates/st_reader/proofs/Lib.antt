@@ -1,5 +1,3 @@
-mod Numbers
-mod Cells
 mod Written
 mod OneAnswer
 mod Promises

@@ -4,12 +4,12 @@ use Rattle.std.specs.Prelude.{nat_lt, ◌⊎◌}
 use Rattle.st_token.specs.declared.fault.SexpFault.{SexpFault}
 use Rattle.st_sexp.specs.declared.form.Form.{Form}
 use Rattle.st_sexp.specs.Reading.{Due, WantsMemory}
-use Rattle.st_reader.specs.declared.fault.Misread.TheVariants as misread
+use Rattle.st_statements.specs.declared.fault.Misread.TheVariants as misread
+use Rattle.st_statements.specs.Reading.{Reading}
 use Rattle.st_reader.specs.declared.fault.ScriptFault.{ScriptFault}
 use Rattle.st_reader.specs.declared.fault.ScriptFault.TheVariants as fault
 use Rattle.st_text.specs.Answer.{Answers}
 use Rattle.st_reader.specs.Faults.{told, in_input}
-use Rattle.st_reader.specs.Reading.{Reading}
 use Rattle.st_reader.specs.Inputs.{max_bytes, answered, DueWhere, DueFor, Wants}
 
 -- each text has an answer, and no two

@@ -1,16 +1,9 @@
 -- What faults tell of what was read. Want of memory tells nothing, and may come at any time.
 use Rattle.std.specs.Prelude.{Option, Some, None, Result, Ok, Err}
-use Rattle.st_reader.specs.declared.fault.Misread.{Misread}
-use Rattle.st_reader.specs.declared.fault.Misread.TheVariants as misread
+use Rattle.st_statements.specs.declared.fault.Misread.{Misread}
+use Rattle.st_statements.specs.declared.fault.Misread.TheVariants as misread
 use Rattle.st_reader.specs.declared.fault.ScriptFault.{ScriptFault}
 use Rattle.st_reader.specs.declared.fault.ScriptFault.TheVariants as fault
-use Rattle.st_reader.specs.declared.fault.Stop.{Stop}
-use Rattle.st_reader.specs.declared.fault.Stop.TheVariants as stop
-
--- what ends the reading of forms
-abbrev pub misread_of : Stop → Option Misread
-misread_of (stop.Misread found) = Some found
-misread_of stop.Memory = None
 
 -- what a fault of an input tells
 abbrev pub told : ScriptFault → Option ScriptFault

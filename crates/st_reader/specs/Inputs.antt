@@ -6,10 +6,10 @@ use Rattle.st_sexp.specs.declared.form.Form.{Form}
 use Rattle.st_sexp.specs.Reading.{Due, WantsMemory}
 use Rattle.st_query.specs.declared.statement.Transaction.{Transaction}
 use Rattle.st_query.specs.Written.{is_written}
+use Rattle.st_statements.specs.Reading.{Reading}
 use Rattle.st_reader.specs.declared.fault.ScriptFault.{ScriptFault}
 use Rattle.st_reader.specs.declared.fault.ScriptFault.TheVariants as fault
 use Rattle.st_reader.specs.Faults.{in_input}
-use Rattle.st_reader.specs.Reading.{Reading}
 use Rattle.st_reader.specs.Scripts.{max_statements}
 
 -- how many bytes an input may have

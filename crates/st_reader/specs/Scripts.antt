@@ -6,9 +6,9 @@ use Rattle.st_sexp.specs.Items.{and_then, next_at, end_of, behind}
 use Rattle.st_sexp.specs.Nested.{spliced}
 use Rattle.st_query.specs.declared.statement.Statement.{Statement}
 use Rattle.st_query.specs.declared.statement.Transaction.{Transaction}
-use Rattle.st_reader.specs.declared.fault.Misread.TheVariants as misread
-use Rattle.st_reader.specs.Reading.{Reading, read_behind}
-use Rattle.st_reader.specs.Statements.{statement_at}
+use Rattle.st_statements.specs.declared.fault.Misread.TheVariants as misread
+use Rattle.st_statements.specs.Reading.{Reading, read_behind}
+use Rattle.st_statements.specs.Statements.{statement_at}
 
 -- how many statements a transaction may have
 abbrev pub max_statements : ℕ

@@ -2,17 +2,18 @@
 ghost use Rattle.std.specs.Prelude.{◌≡◌, IsTrue, IfOk, Result, Ok};
 ghost use Rattle.std.specs.List.{list_all};
 ghost use Rattle.st_text.specs.Answer.{Answers};
-ghost use Rattle.st_reader.specs.declared.fault.Misread.{Misread};
-ghost use Rattle.st_reader.specs.Faults.{misread_of, told, in_input};
-ghost use Rattle.st_reader.specs.Queries.{query_at};
+ghost use Rattle.st_statements.specs.declared.fault.Misread.{Misread};
+ghost use Rattle.st_statements.specs.Faults.{misread_of};
+ghost use Rattle.st_statements.specs.Queries.{query_at};
+ghost use Rattle.st_reader.specs.Faults.{told, in_input};
 ghost use Rattle.st_reader.specs.Scripts.{script, transaction_at, one_form};
 ghost use Rattle.st_reader.specs.Inputs.{DueFor, is_transaction};
 
 use crate::ScriptFault;
-use crate::fault::Stop;
 use crate::script::{one_query, one_transaction, script};
 use st_query::{Query, Script, Transaction};
 use st_sexp::{Forms, SexpFault, read};
+use st_statements::Stop;
 use std::alloc::Global;
 
 /// How many bytes an input may have.

@@ -2,8 +2,8 @@
 ghost use Rattle.std.specs.Prelude.{◌≡◌, ◌⊎◌, List, ℕ, Result};
 ghost use Rattle.st_query.specs.declared.query.Query.{Query};
 ghost use Rattle.st_query.specs.declared.statement.Transaction.{Transaction};
+ghost use Rattle.st_statements.specs.Queries.{query_at};
 ghost use Rattle.st_reader.specs.declared.fault.ScriptFault.{ScriptFault};
-ghost use Rattle.st_reader.specs.Queries.{query_at};
 ghost use Rattle.st_reader.specs.Scripts.{script, transaction_at, one_form};
 ghost use Rattle.st_reader.specs.Inputs.{DueFor, Wants};
 

@@ -1,21 +1,14 @@
-//! Scripts as text: how statements, transactions and queries are read from forms.
+//! Scripts as text: how transactions, scripts and whole inputs are read.
 #![tactic(auto)]
 
 mod apart;
-mod basic;
-mod cell;
 mod fault;
 mod input;
 mod laws;
-mod names;
-mod part;
-mod query;
 mod script;
-mod statement;
-mod term;
-mod word;
 
 pub use apart::split;
-pub use fault::{Misread, ScriptFault};
+pub use fault::ScriptFault;
 pub use input::{read_forms, read_query, read_script, read_transaction};
 pub use laws::laws_of_inputs;
+pub use st_statements::Misread;

@@ -1,18 +1,14 @@
 //! How transactions and scripts are written.
 ghost use Rattle.std.specs.Prelude.{◌≡◌};
 ghost use Rattle.st_text.specs.Answer.{Answers};
-ghost use Rattle.st_reader.specs.Faults.{misread_of};
-ghost use Rattle.st_reader.specs.Queries.{query_at};
+ghost use Rattle.st_statements.specs.Faults.{misread_of};
+ghost use Rattle.st_statements.specs.Queries.{query_at};
 ghost use Rattle.st_reader.specs.Scripts.{counted, statements_in, statements_at, items_at, transaction_at, script, one_form};
 
-use crate::Misread;
-use crate::basic::{end_of, misfit, next_at};
-use crate::fault::Stop;
-use crate::query::query_at;
-use crate::statement::statement_at;
 use sqlite_items::Items;
 use st_query::{Query, Script, Statements, Transaction};
 use st_sexp::{Ahead, Form, Forms, behind, spliced};
+use st_statements::{Misread, Stop, end_of, misfit, next_at, query_at, statement_at};
 use std::alloc::Global;
 
 /// How many statements a transaction may have.

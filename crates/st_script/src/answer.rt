@@ -63,7 +63,7 @@ fn push_term(
     variables: &[Variable],
     term: &Term,
 ) -> Result<(), AllocError>
-    ensures { OnOk result (into.new ≡ into.old ++ 32 ∷ printed_meaning plain.now.schema.names (term_meaning plain.now variables.now term.now)) }
+    ensures { OnOk result (into.new ≡ into.old ++ 32 ∷ printed_meaning plain.now.state.schema.names (term_meaning plain.now.state variables.now term.now)) }
 {
     let meaning = term_meaning(alloc, plain, variables, term)?;
     into.push_str(" ")?;
@@ -76,7 +76,7 @@ fn print_tail(
     variables: &[Variable],
     terms: &[Term],
 ) -> Result<Letters, AllocError>
-    ensures { IfOk result (λ text. text ≡ print_tail (present plain.now variables.now) terms.now) }
+    ensures { IfOk result (λ text. text ≡ print_tail (present plain.now.state variables.now) terms.now) }
 {
     let mut text = Letters::from_text(alloc, "=")?;
     for term in terms {
@@ -92,7 +92,7 @@ pub(crate) fn print_lines(
     variables: &[Variable],
     terms: &[Term],
 ) -> Result<Lines, AllocError>
-    ensures { IfOk result (λ lines. lines ≡ print_tail (present plain.now variables.now) terms.now ∷ []) }
+    ensures { IfOk result (λ lines. lines ≡ print_tail (present plain.now.state variables.now) terms.now ∷ []) }
 {
     let mut lines = Items::new(alloc);
     lines.push(print_tail(alloc, plain, variables, terms)?)?;

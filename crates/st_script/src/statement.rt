@@ -28,7 +28,7 @@ fn cell_values(
     variables: &[Variable],
     cells: &[Cell],
 ) -> Result<Vec<Value>, AllocError>
-    ensures { IfOk result (λ values. values.items ≡ map (λ cell. term_value plain.now variables.now cell.value) cells.now) }
+    ensures { IfOk result (λ values. values.items ≡ map (λ cell. term_value plain.now.state variables.now cell.value) cells.now) }
 {
     let mut values = Vec::new(alloc);
     for cell in cells {
@@ -47,23 +47,25 @@ fn number_of(attribute: Option<&Attribute>) -> Option<u16>
 }
 
 fn set_cell(
+    alloc: Global,
     plain: &mut Plain,
     ty: u16,
     entity: EntityId,
     cell: &Cell,
     value: Value,
 ) -> Result<(), AllocError>
-    requires { ty < length plain.old.schema.names }
-    ensures ok { OnOk result (plain.new ≡ cell_set (attribute_of plain.old.schema ty cell.now.name) entity value plain.old) }
-    ensures schema { OnOk result (plain.new.schema ≡ plain.old.schema) }
+    requires { ty < length plain.old.state.schema.names }
+    ensures ok { OnOk result (plain.new.state ≡ cell_set (attribute_of plain.old.state.schema ty cell.now.name) entity value plain.old.state) }
+    ensures schema { OnOk result (plain.new.state.schema ≡ plain.old.state.schema) }
 {
     match number_of(plain.schema().attribute_of(ty, cell.name.as_slice())) {
-        Some(number) => plain.set(entity, number, value),
+        Some(number) => plain.set(alloc, entity, number, value),
         None => Ok(()),
     }
 }
 
 fn set_cells(
+    alloc: Global,
     plain: &mut Plain,
     ty: u16,
     entity: EntityId,
@@ -71,11 +73,11 @@ fn set_cells(
     values: Vec<Value>,
 ) -> Result<(), AllocError>
     requires counts { vec_len values ≡ length cells.now }
-    requires there { ty < length plain.old.schema.names }
-    ensures { OnOk result (plain.new ≡ cells_set ty entity cells.now values.items plain.old) }
+    requires there { ty < length plain.old.state.schema.names }
+    ensures { OnOk result (plain.new.state ≡ cells_set ty entity cells.now values.items plain.old.state) }
 {
     for (cell, value) in cells.iter().zip(values) {
-        set_cell(plain, ty, entity, cell, value)?;
+        set_cell(alloc, plain, ty, entity, cell, value)?;
     }
     Ok(())
 }
@@ -88,19 +90,19 @@ fn make_of(
     ty: u16,
     cells: &[Cell],
 ) -> Result<(), AllocError>
-    requires there { ty < length plain.old.schema.names }
-    requires room { slice_index plain.old.last ty + 1 < 2 ^ 32 }
-    ensures { OnOk result (IsPresent (makes_of (present plain.old variables.old.items) var.now cells.now ty) plain.new variables.new.items) }
+    requires there { ty < length plain.old.state.schema.names }
+    requires room { slice_index plain.old.state.last ty + 1 < 2 ^ 32 }
+    ensures { OnOk result (IsPresent (makes_of (present plain.old.state variables.old.items) var.now cells.now ty) plain.new.state variables.new.items) }
 {
     let values = cell_values(alloc, plain, variables, cells)?;
     let entity = plain.make(ty)?;
-    set_cells(plain, ty, entity, cells, values)?;
+    set_cells(alloc, plain, ty, entity, cells, values)?;
     bind(alloc, variables, var, Value::Entity(entity))
 }
 
 fn type_named(plain: &Plain, name: &[u8]) -> Option<u16>
-    ensures value { result ≡ type_named plain.now.schema name.now }
-    ensures within { IfSome result (λ ty. ty < length plain.now.schema.names) }
+    ensures value { result ≡ type_named plain.now.state.schema name.now }
+    ensures within { IfSome result (λ ty. ty < length plain.now.state.schema.names) }
 {
     plain.schema().type_named(name)
 }
@@ -113,8 +115,8 @@ fn make(
     ty: &[u8],
     cells: &[Cell],
 ) -> Result<(), AllocError>
-    requires room { HasRoom plain.old }
-    ensures { OnOk result (IsPresent (makes (present plain.old variables.old.items) var.now cells.now (type_named plain.old.schema ty.now)) plain.new variables.new.items) }
+    requires room { HasRoom plain.old.state }
+    ensures { OnOk result (IsPresent (makes (present plain.old.state variables.old.items) var.now cells.now (type_named plain.old.state.schema ty.now)) plain.new.state variables.new.items) }
 {
     match type_named(plain, ty) {
         Some(ty) => make_of(alloc, plain, variables, var, ty, cells),
@@ -124,7 +126,7 @@ fn make(
 
 /// The number of the attribute that a qualified name calls, where it calls one.
 fn own_number(plain: &Plain, name: &[u8]) -> Option<u16>
-    ensures { result ≡ own_number (called plain.now.schema name.now) }
+    ensures { result ≡ own_number (called plain.now.state.schema name.now) }
 {
     match plain.schema().called(name) {
         Called::Own(attribute) => Some(attribute.number),
@@ -133,15 +135,16 @@ fn own_number(plain: &Plain, name: &[u8]) -> Option<u16>
 }
 
 fn set_of(
+    alloc: Global,
     plain: &mut Plain,
     number: Option<u16>,
     target: &Value,
     value: Value,
 ) -> Result<(), AllocError>
-    ensures { (c : Called Attribute) → number ≡ own_number c → OnOk result (plain.new ≡ sets plain.old c target.now value) }
+    ensures { (c : Called Attribute) → number ≡ own_number c → OnOk result (plain.new.state ≡ sets plain.old.state c target.now value) }
 {
     match (number, target) {
-        (Some(number), Value::Entity(entity)) => plain.set(*entity, number, value),
+        (Some(number), Value::Entity(entity)) => plain.set(alloc, *entity, number, value),
         _ => Ok(()),
     }
 }
@@ -154,13 +157,13 @@ fn set(
     target: &Term,
     value: &Term,
 ) -> Result<(), AllocError>
-    ensures { OnOk result (plain.new ≡ sets plain.old (called plain.old.schema feature.now)
-        (term_value plain.old variables.now target.now) (term_value plain.old variables.now value.now)) }
+    ensures { OnOk result (plain.new.state ≡ sets plain.old.state (called plain.old.state.schema feature.now)
+        (term_value plain.old.state variables.now target.now) (term_value plain.old.state variables.now value.now)) }
 {
     let target = term_value(alloc, plain, variables, target)?;
     let value = term_value(alloc, plain, variables, value)?;
     let number = own_number(plain, feature);
-    set_of(plain, number, &target, value)
+    set_of(alloc, plain, number, &target, value)
 }
 
 /// Runs a statement `make`, `set` or `print` that no rule refuses: what its lines say behind the turn and the client.
@@ -171,10 +174,10 @@ pub fn step(
     variables: &mut Vec<Variable>,
     statement: &Statement,
 ) -> Result<Lines, AllocError>
-    requires room { HasRoom plain.old }
+    requires room { HasRoom plain.old.state }
     requires thin { IsThinStatement statement.now }
-    ensures done { OnOk result (IsPresent (does (present plain.old variables.old.items) statement.now) plain.new variables.new.items) }
-    ensures answered { IfOk result (λ lines. lines ≡ answers (present plain.old variables.old.items) statement.now) }
+    ensures done { OnOk result (IsPresent (does (present plain.old.state variables.old.items) statement.now) plain.new.state variables.new.items) }
+    ensures answered { IfOk result (λ lines. lines ≡ answers (present plain.old.state variables.old.items) statement.now) }
 {
     match statement {
         Statement::Make { var, ty, cells } => {

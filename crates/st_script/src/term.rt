@@ -19,7 +19,7 @@ fn attribute_value(
     attribute: &Attribute,
     value: &Value,
 ) -> Result<Meaning, AllocError>
-    ensures { IfOk result (λ meaning. meaning ≡ attribute_value plain.now attribute.now value.now) }
+    ensures { IfOk result (λ meaning. meaning ≡ attribute_value plain.now.state attribute.now value.now) }
 {
     match value {
         Value::Entity(entity) => {
@@ -56,7 +56,7 @@ fn inverse_value(
     attribute: &Attribute,
     value: &Value,
 ) -> Result<Meaning, AllocError>
-    ensures { IfOk result (λ meaning. meaning ≡ inverse_value plain.now attribute.now value.now) }
+    ensures { IfOk result (λ meaning. meaning ≡ inverse_value plain.now.state attribute.now value.now) }
 {
     match value {
         Value::Entity(_) => {
@@ -74,7 +74,7 @@ fn feature_value(
     name: &[u8],
     value: &Value,
 ) -> Result<Meaning, AllocError>
-    ensures { IfOk result (λ meaning. meaning ≡ feature_value plain.now (called plain.now.schema name.now) value.now) }
+    ensures { IfOk result (λ meaning. meaning ≡ feature_value plain.now.state (called plain.now.state.schema name.now) value.now) }
 {
     match plain.schema().called(name) {
         Called::Own(attribute) => attribute_value(alloc, plain, attribute, value),
@@ -101,7 +101,7 @@ pub fn term_meaning(
     variables: &[Variable],
     term: &Term,
 ) -> Result<Meaning, AllocError>
-    ensures { IfOk result (λ meaning. meaning ≡ term_meaning plain.now variables.now term.now) }
+    ensures { IfOk result (λ meaning. meaning ≡ term_meaning plain.now.state variables.now term.now) }
 {
     match term {
         Term::Literal(literal) => {
@@ -126,7 +126,7 @@ pub fn term_value(
     variables: &[Variable],
     term: &Term,
 ) -> Result<Value, AllocError>
-    ensures { IfOk result (λ value. value ≡ term_value plain.now variables.now term.now) }
+    ensures { IfOk result (λ value. value ≡ term_value plain.now.state variables.now term.now) }
 {
     Ok(single(term_meaning(alloc, plain, variables, term)?))
 }

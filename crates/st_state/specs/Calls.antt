@@ -1,7 +1,6 @@
 -- What a base is asked: the calls on a state, when each may be made, by which rule it has to be refused, and what it leaves.
 use Rattle.std.specs.Prelude.{ℕ, Bool, true, false, not, ◌&&◌, List, [], ◌∷◌, Option, Some, None, is_some, IsTrue}
 use Rattle.st_values.specs.declared.value.EntityId.{EntityId}
-use Rattle.st_values.specs.declared.value.Kind.{Kind}
 use Rattle.st_values.specs.declared.value.Value.{Value}
 use Rattle.st_values.specs.declared.value.Value.TheVariants.{Null}
 use Rattle.st_lattice.specs.declared.attribute.Attribute.{Attribute}
@@ -64,6 +63,17 @@ CanBe state number value = CanHold state number value
 abbrev pub shared_at : State → Option Attribute → EntityId → Value → Option Refusal
 shared_at state None e value = None
 shared_at state (Some a) e value = not_unique state a (Some e) value
+
+-- a state admits a call: what the call is given is there, and fits
+abbrev pub Admits : State → Call → Type 0
+Admits state (Get e number) = HasSingle state e number
+Admits state (Set e number value) = HasSingle state e number × CanBe state number value
+Admits state (Members e number) = HasSet state e number
+Admits state (Add e number value) = HasSet state e number × CanHold state number value
+Admits state (Take e number value) = HasSet state e number × CanHold state number value
+Admits state (Turned number value) = CanHold state number value
+Admits state (Delete e) = IsTrue (is_live state e)
+Admits state _ = Unit {0}
 
 -- the rule by which a call has to be refused, if one has to
 abbrev pub due : State → Call → Option Refusal

@@ -1,4 +1,6 @@
+use st_text::Duplicate;
 use st_values::{EntityId, Value};
+use std::alloc::{AllocError, Global};
 
 /// A value of an attribute of an entity.
 #[derive(Debug, Drop)]
@@ -9,4 +11,14 @@ pub struct Triple {
     pub entity: EntityId,
     /// Never null: an attribute that is null has no triple.
     pub value: Value,
+}
+
+impl Duplicate for Triple {
+    fn copy(&self, alloc: Global) -> Result<Triple, AllocError> {
+        Ok(Triple {
+            attribute: self.attribute,
+            entity: self.entity,
+            value: self.value.copy(alloc)?,
+        })
+    }
 }

@@ -1,6 +1,6 @@
 //! Text forms: what a text is read as.
 
-use crate::case::Case;
+use st_cases::Case;
 use st_sexp::{Form, Forms, SexpFault, Shape, read};
 use st_text::Duplicate;
 use st_values::{Value, print_value};

@@ -1,7 +1,6 @@
 //! Reads tables of cases, files of the folder that it runs in, and prints each case with its answer.
 #![tactic(auto)]
 
-mod case;
 mod disk;
 mod forms;
 mod lattice;
@@ -11,12 +10,13 @@ mod tries;
 mod values;
 
 use crate::table::TABLES;
+use st_cases::answered;
 use std::{fs, io};
 
 fn main(rt: HostRuntime) -> io::Result<()> {
     for table in TABLES {
         let text = fs::read_to_string(&rt, table.file())?;
-        let answers = table::answered(rt.alloc(), table, text.as_str())?;
+        let answers = answered(rt.alloc(), &table, table.file(), text.as_str())?;
         print!(rt; "{answers}")?;
     }
     let calls = fs::read_to_string(&rt, "disk.txt")?;

@@ -1,8 +1,8 @@
 //! Schemas: what a text is read as, and what the schema is asked.
 
-use crate::case::Case;
 use crate::forms::forms_of;
 use crate::lattice;
+use st_cases::Case;
 use st_schema::{Counted, Schema, SchemaFault, print_schema, read_schema};
 use st_text::Duplicate;
 use std::alloc::{AllocError, Global};

@@ -1,7 +1,7 @@
 //! Commands of `statice`, over bytes in memory.
 
-use crate::case::Case;
 use crate::schemas::push_lines;
+use st_cases::Case;
 use st_edge::{FaultlessDisk, MemorySink, MemorySource, Source};
 use statice::{Status, statice};
 use std::alloc::{AllocError, Global};

@@ -1,8 +1,8 @@
 //! Values: how they are printed, and their order.
 
-use crate::case::Case;
 use crate::forms::forms_of;
 use sqlite_items::Items;
+use st_cases::Case;
 use st_sexp::{Form, Shape, as_number, as_pair};
 use st_text::{Duplicate, Letters};
 use st_values::{EntityId, Value, Values, compare, push_value};

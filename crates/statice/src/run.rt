@@ -66,13 +66,13 @@ fn take_turn<K: Sink>(
     turn: u64,
     sink: &mut K,
 ) -> Result<(), RunFault>
-    requires room { HasRoom plain.old }
+    requires room { HasRoom plain.old.state }
     requires thin { IsThinStatement statement.now }
-    ensures ran { OnOk result (IsPresent (does (present plain.old variables.old.items) statement.now) plain.new variables.new.items) }
+    ensures ran { OnOk result (IsPresent (does (present plain.old.state variables.old.items) statement.now) plain.new.state variables.new.items) }
     ensures ok { OnOk result (TakesAll (K.state sink.old) (K.state sink.new)
-        (turn_lines turn (present plain.old variables.old.items) statement.now)) }
-    ensures err { OnErr result ((n : ℕ) × (n ≤ length (turn_lines turn (present plain.old variables.old.items) statement.now))
-        × TakesAll (K.state sink.old) (K.state sink.new) (take n (turn_lines turn (present plain.old variables.old.items) statement.now))) }
+        (turn_lines turn (present plain.old.state variables.old.items) statement.now)) }
+    ensures err { OnErr result ((n : ℕ) × (n ≤ length (turn_lines turn (present plain.old.state variables.old.items) statement.now))
+        × TakesAll (K.state sink.old) (K.state sink.new) (take n (turn_lines turn (present plain.old.state variables.old.items) statement.now))) }
     ensures sink { IsErrOf result RunFault.Sink → Rose (K.state sink.old).faults (K.state sink.new).faults }
     ensures never_falls { (K.state sink.old).faults ≤ (K.state sink.new).faults }
 {

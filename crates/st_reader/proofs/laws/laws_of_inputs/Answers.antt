@@ -1,4 +1,4 @@
-use Rattle.st_reader.specs.Queries.{query_at}
+use Rattle.st_statements.specs.Queries.{query_at}
 use Rattle.st_reader.specs.Scripts.{script, transaction_at, one_form}
 use Rattle.st_reader.proofs.OneAnswer.{some_answer, no_other}
 use Rattle.st_reader.proofs.laws.laws_of_inputs.Goals as goal

@@ -1,5 +1,5 @@
 use Rattle.std.proofs.Common.{◌≡◌, length}
-use Rattle.st_reader.specs.Reading.{read_behind}
+use Rattle.st_statements.specs.Reading.{read_behind}
 use Rattle.st_reader.specs.Scripts.{transaction_at, script}
 use Rattle.st_reader.proofs.script.script.Given as goal
 

@@ -1,6 +1,6 @@
 use Rattle.std.proofs.Common.{◌≡◌, length}
-use Rattle.st_reader.specs.Reading.{read_behind}
-use Rattle.st_reader.specs.Statements.{statement_at}
+use Rattle.st_statements.specs.Reading.{read_behind}
+use Rattle.st_statements.specs.Statements.{statement_at}
 use Rattle.st_reader.specs.Scripts.{statements_in}
 use Rattle.st_reader.proofs.script.statements_in.Given as goal
 

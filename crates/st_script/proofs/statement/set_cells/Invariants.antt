@@ -9,6 +9,6 @@ use Rattle.st_script.proofs.statement.set_cells.Given as goal
 abbrev pub invariant-loop-cell : goal.invariant-loop-cell
 invariant-loop-cell l = record {
   counted : into_iter_len (zip_second l.cell-iterator) ≡ length (iter_rest (zip_first l.cell-iterator));
-  there : l.ty < length l.plain.schema.names;
-  told : cells_set l.ty l.entity (iter_rest (zip_first l.cell-iterator)) (into_iter_items (zip_second l.cell-iterator)) l.plain ≡ cells_set l.ty l.entity l.cells l.fn.values.items l.fn.plain;
+  there : l.ty < length l.plain.state.schema.names;
+  told : cells_set l.ty l.entity (iter_rest (zip_first l.cell-iterator)) (into_iter_items (zip_second l.cell-iterator)) l.plain.state ≡ cells_set l.ty l.entity l.cells l.fn.values.items l.fn.plain.state;
 }

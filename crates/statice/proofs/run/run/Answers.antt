@@ -1,4 +1,4 @@
-use Rattle.std.proofs.Common.{◌≡◌, ◌<◌, [], length, drop, refl, sym, subst, arith}
+use Rattle.std.proofs.Common.{◌≡◌, ◌<◌, [], length, drop, refl, sym, ap, subst, arith}
 use Rattle.std.proofs.lemmas.List.{drop_all}
 use Rattle.st_query.specs.Thin.{IsThinStatement}
 use Rattle.statice.proofs.Running.{started, more, ended, going, all_taken, front_taken, none_taken, at_place, on_err}
@@ -7,7 +7,7 @@ use Rattle.statice.proofs.run.run.Goals as goal
 pub loop-statement-init : goal.loop-statement-init
 loop-statement-init g c = record {
   counted = refl;
-  ran = started _ _ _ _ _ c.in_ok-plain.ensures c.new-variables.ensures.items;
+  ran = started _ _ _ _ _ (ap (λ held. held.state) c.in_ok-plain.ensures) c.new-variables.ensures.items;
   faults = omega arith;
 }
 

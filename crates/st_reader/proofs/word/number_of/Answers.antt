@@ -1,6 +1,0 @@
-use Rattle.std.proofs.Common.{◌∙◌}
-use Rattle.st_reader.proofs.Numbers.{number_of-parse}
-use Rattle.st_reader.proofs.word.number_of.Goals as goal
-
-pub returns : goal.returns
-returns c = c.ok.ensures.value ∙ number_of-parse c.args.digits.now c.parse.result c.requires c.parse.ensures.value.0

@@ -1,0 +1,3 @@
+mod Numbers
+mod Cells
+pub mod Written

@@ -1,0 +1,20 @@
+use Rattle.std.proofs.Common.{List, [], sym, subst, ◌∙◌}
+use Rattle.st_triples.specs.declared.column.Column.{Column}
+use Rattle.st_triples.specs.Columns.{triples_of, IsGapAt}
+use Rattle.st_triples.proofs.OnePart.{taken-part, any-same-part}
+use Rattle.st_triples.proofs.Flat.{gap-part}
+use Rattle.st_triples.proofs.columns.take.Goals as goal
+
+pub returns-in-Err-clause-changed : goal.returns-in-Err-clause-changed
+returns-in-Err-clause-changed c =
+    let G : List Column → Type 0 = λ z. IsGapAt c.args.attribute z c.in-Err.field-0 in
+    let cs = c.args.columns.now.items in
+    let w = gap-part c.args.attribute cs c.requires c.in-Err.field-0 (subst G c.deref.ensures.value c.in-Err.ensures.absent) in
+    sym (any-same-part c.args.attribute [] (triples_of cs) w c.args.entity c.args.value.now)
+
+pub returns-in-Err-clause-ok : goal.returns-in-Err-clause-ok
+returns-in-Err-clause-ok c =
+    let G : List Column → Type 0 = λ z. IsGapAt c.args.attribute z c.in-Err.field-0 in
+    let cs = c.args.columns.now.items in
+    let w = gap-part c.args.attribute cs c.requires c.in-Err.field-0 (subst G c.deref.ensures.value c.in-Err.ensures.absent) in
+    w.whole ∙ sym (taken-part c.args.attribute [] (triples_of cs) w c.args.entity c.args.value.now)

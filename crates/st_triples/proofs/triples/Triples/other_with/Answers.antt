@@ -1,0 +1,16 @@
+use Rattle.std.proofs.Common.{List, Some, sym, ap, subst, ◌∙◌}
+use Rattle.std.specs.Prelude.{find}
+use Rattle.st_state.specs.declared.triple.Triple.{Triple}
+use Rattle.st_state.specs.Bases.{is_other}
+use Rattle.st_triples.specs.Columns.{triples_of, IsPart}
+use Rattle.st_triples.proofs.OnePart.{turned-part}
+use Rattle.st_triples.proofs.triples.Triples.other_with.Goals as goal
+
+pub returns : goal.returns
+returns c =
+    let a = c.args.attribute in
+    let cells = c.cells_of.result.now in
+    let triples = c.args.self.now.triples in
+    let W : List Triple → Type 0 = IsPart a cells in
+    let w = subst W (ap triples_of c.deref.ensures.value ∙ ap (λ m. m.triples) c.self.view_is) c.cells_of.ensures in
+    c.other_with.ensures ∙ ap (find (is_other (Some c.args.entity))) (sym (turned-part a cells triples w c.args.value.now))
