@@ -16,8 +16,8 @@ import time
 
 PROGRAM = pathlib.Path(__file__).resolve().parent.parent / "bin" / "statice"
 RUNS = 5
-CELLS = ("given-name", "family-name", "room", "badge", "born", "grade", "phone", "present")
-KINDS = ("string", "string", "string", "integer", "integer", "integer", "integer", "boolean")
+CELLS = ("given-name", "family-name", "room", "badge", "born", "grade", "phone", "floor")
+KINDS = ("string", "string", "string", "integer", "integer", "integer", "integer", "integer")
 
 
 def input_of(count):
@@ -25,7 +25,7 @@ def input_of(count):
     attributes = " ".join(f"({name} {kind})" for name, kind in zip(CELLS, KINDS))
     lines = ["(define-schema staff)", f"(define-entity-type person () ({attributes}))", "(with-transaction"]
     for n in range(count):
-        values = (f'"Ada {n}"', f'"Byron {n % 97}"', f'"room {n % 50}"', n, 19000101 + n, n % 7, 4000 + n, "true")
+        values = (f'"Ada {n}"', f'"Byron {n % 97}"', f'"room {n % 50}"', n, 19000101 + n, n % 7, 4000 + n, n % 9)
         cells = " ".join(f"({name} {value})" for name, value in zip(CELLS, values))
         lines.append(f"(make p person {cells})")
     return ("\n".join(lines) + ")\n").encode()

@@ -1,0 +1,3 @@
+pub mod Bases
+pub mod Late
+pub mod Laws
