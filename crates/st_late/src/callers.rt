@@ -8,14 +8,17 @@ use st_plain::{Base, BaseFault};
 use st_values::{EntityId, Value};
 use std::alloc::Global;
 
-/// The value of an attribute of an entity, where that one is live.
+/// The value of an attribute of an entity, where that one is live. On an error of the base nothing is said.
 pub fn value_if_live<B: Base>(
     base: &mut B,
     alloc: Global,
     entity: EntityId,
     number: u16,
 ) -> Result<Option<Value>, BaseFault>
-    ensures { (w : B.Witness) (s : State) → B.agrees base.new w → B.stands base.old w s →
+    ensures leaves { (w : B.Witness) (s : State) → B.agrees base.new w → B.stands base.old w s →
+        (IsTrue (is_live s entity) → Admits s (Get entity number)) →
+        OnOk result (B.stands base.new w s) }
+    ensures value { (w : B.Witness) (s : State) → B.agrees base.new w → B.stands base.old w s →
         (IsTrue (is_live s entity) → Admits s (Get entity number)) →
         IfOk result (λ found. found ≡ value_if_live s entity number) }
 {
@@ -26,7 +29,7 @@ pub fn value_if_live<B: Base>(
     }
 }
 
-/// Makes an entity with a value, and gets the value.
+/// Makes an entity with a value, and gets the value. On an error of the base nothing is said.
 pub fn made_with<B: Base>(
     base: &mut B,
     alloc: Global,
