@@ -53,7 +53,7 @@ named-found name test h (x ∷ xs) e =
     (left (list_all (λ b. not (bytes_eq (name b) (name x))) xs) (each_pair (λ a b. not (bytes_eq (name b) (name a))) xs) e)
     (named-found name test h xs (right (list_all (λ b. not (bytes_eq (name b) (name x))) xs) (each_pair (λ a b. not (bytes_eq (name b) (name a))) xs) e)))
 
-find-filter : {X : Type 0} (f g : X → Bool) (xs : List X) → find g (filter f xs) ≡ find (λ x. f x && g x) xs
+pub find-filter : {X : Type 0} (f g : X → Bool) (xs : List X) → find g (filter f xs) ≡ find (λ x. f x && g x) xs
 find-filter f g [] = refl
 find-filter f g (x ∷ xs) =
     either (f x) (λ b. find g (cond b (x ∷ filter f xs) (filter f xs)) ≡ cond (b && g x) (Some x) (find (λ y. f y && g y) xs))
@@ -98,7 +98,7 @@ module _ (n : EntityId) (ty : ℕ) where
     pub held : null v ≡ false → can_hold s a.kind v ≡ true
     pub alone : a.unique ≡ true → list_all (λ t. same_entity n t.entity || not ((t.attribute == a.number) && same_value t.value v)) s.triples ≡ true
 
-  can-step : (s : State) (k : ℕ) (w : Value) (a : Attribute) (v : Value) → CanSet s a v → CanSet (attribute_set s k n w) a v
+  pub can-step : (s : State) (k : ℕ) (w : Value) (a : Attribute) (v : Value) → CanSet s a v → CanSet (attribute_set s k n w) a v
   can-step s k w a v c = record {
     held = c.held;
     alone = λ u. all-set s k n w (λ t. same_entity n t.entity || not ((t.attribute == a.number) && same_value t.value v))
@@ -109,7 +109,7 @@ module _ (n : EntityId) (ty : ℕ) where
   CanAll s (c ∷ cs) (v ∷ vs) = ((a : Attribute) → attribute_of s.schema ty c.name ≡ Some a → CanSet s a v) × CanAll s cs vs
   CanAll s _ _ = ⊤
 
-  can-all-step : (s : State) (k : ℕ) (w : Value) (cs : List Cell) (vs : List Value) → CanAll s cs vs → CanAll (attribute_set s k n w) cs vs
+  pub can-all-step : (s : State) (k : ℕ) (w : Value) (cs : List Cell) (vs : List Value) → CanAll s cs vs → CanAll (attribute_set s k n w) cs vs
   can-all-step s k w [] vs c = c
   can-all-step s k w (x ∷ cs) [] c = c
   can-all-step s k w (x ∷ cs) (v ∷ vs) c = (λ a f. can-step s k w a v (c.0 a f), can-all-step s k w cs vs c.1)
@@ -133,7 +133,7 @@ module _ (n : EntityId) (ty : ℕ) where
       turn false false h = h
 
   -- the entity has the attributes of the type
-  owns : (s : State) → IsNearlyLegal s → isa s.schema n.ty ty ≡ true → (name : List ℕ) (a : Attribute) → attribute_of s.schema ty name ≡ Some a → isa s.schema n.ty a.owner ≡ true
+  pub owns : (s : State) → IsNearlyLegal s → isa s.schema n.ty ty ≡ true → (name : List ℕ) (a : Attribute) → attribute_of s.schema ty name ≡ Some a → isa s.schema n.ty a.owner ≡ true
   owns s g o name a f = isa-chain s.schema g.orderly n.ty ty a.owner o (found s.schema g.consistent ty name a f).of_type
 
   pub cells-nearly : (cs : List Cell) (vs : List Value) (s : State) → IsNearlyLegal s → is_live s n ≡ true → isa s.schema n.ty ty ≡ true → CanAll s cs vs → IsNearlyLegal (cells_set ty n cs vs s)
@@ -189,7 +189,7 @@ module _ (n : EntityId) (ty : ℕ) where
       none false b h = refl
 
   -- an attribute that no further cell names keeps its value
-  cells-keep : (b : Attribute) (cs : List Cell) (vs : List Value) (s : State) → IsConsistent s.schema → Member b s.schema.attributes → list_all (λ c. not (bytes_eq c.name b.name)) cs ≡ true
+  pub cells-keep : (b : Attribute) (cs : List Cell) (vs : List Value) (s : State) → IsConsistent s.schema → Member b s.schema.attributes → list_all (λ c. not (bytes_eq c.name b.name)) cs ≡ true
       → list_any (is_at b.number n) s.triples ≡ true → list_any (is_at b.number n) (cells_set ty n cs vs s).triples ≡ true
   cells-keep b [] vs s g m o h = h
   cells-keep b (c ∷ cs) [] s g m o h = h

@@ -40,7 +40,7 @@ use Rattle.st_meaning.proofs.Sorts.{first-none, others-none, when-none, unless-n
 
 -- ---- what no rule refuses
 
-some-none : {A : Type 0} (a : A) → Some a ≡ None → ⊥
+pub some-none : {A : Type 0} (a : A) → Some a ≡ None → ⊥
 some-none a e = cc
 
 -- each rule passes
@@ -82,7 +82,7 @@ dead-none s v h e k = when-none (is_live s e) (NoSuchEntity e) (subst (λ w. dea
 
 -- ---- values that are to be stored
 
-is_null-is : (v : Value) → is_null v ≡ null v
+pub is_null-is : (v : Value) → is_null v ≡ null v
 is_null-is value.Null = refl
 is_null-is (value.Int _) = refl
 is_null-is (value.Bool _) = refl
@@ -127,33 +127,33 @@ not-shared s filled f h u = by (find (is_other filled) (turned f.attribute.numbe
     by (Some e) k = absurd (some-none (NotUnique (attribute_name s.schema f.attribute) e) k)
 
 module _ (p : Present) (g : IsLegal p.state) where
-  abbrev s : State
+  abbrev pub s : State
   s = p.state
 
-  abbrev names : List Known
+  abbrev pub names : List Known
   names = known p.variables
 
   -- a term that was checked for a place stands for a value of its sort
-  of_sort : (term : Term) (k : Kind) → term_refused s.schema names (Storable (kind_sort k)) term ≡ None → store_well s.schema (kind_sort k) (value_sort (value_now p term)) ≡ true
+  pub of_sort : (term : Term) (k : Kind) → term_refused s.schema names (Storable (kind_sort k)) term ≡ None → store_well s.schema (kind_sort k) (value_sort (value_now p term)) ≡ true
   of_sort term k h = term-sort s g.nearly p.variables (kind_sort k) term h
 
   -- an entity of a type that was checked
-  of_type : (term : Term) (ty : ℕ) (e : EntityId) → term_refused s.schema names (Storable (sort.Entity ty)) term ≡ None → value_now p term ≡ value.Entity e → isa s.schema e.ty ty ≡ true
+  pub of_type : (term : Term) (ty : ℕ) (e : EntityId) → term_refused s.schema names (Storable (sort.Entity ty)) term ≡ None → value_now p term ≡ value.Entity e → isa s.schema e.ty ty ≡ true
   of_type term ty e h k = subst (λ v. store_well s.schema (sort.Entity ty) (value_sort v) ≡ true) k (term-sort s g.nearly p.variables (sort.Entity ty) term h)
 
   -- two terms of a statement are live
-  first-live : (target written : Term) → first_of (map (λ start. dead s (start_value s p.variables start)) ((way target).start ∷ (way written).start ∷ [])) ≡ None → LiveValue s (value_now p target)
+  pub first-live : (target written : Term) → first_of (map (λ start. dead s (start_value s p.variables start)) ((way target).start ∷ (way written).start ∷ [])) ≡ None → LiveValue s (value_now p target)
   first-live target written h =
       term-live s g.nearly p.variables target (dead-none s (start_value s p.variables (way target).start) (first-none (dead s (start_value s p.variables (way target).start)) _ h))
 
-  second-live : (target written : Term) → first_of (map (λ start. dead s (start_value s p.variables start)) ((way target).start ∷ (way written).start ∷ [])) ≡ None → LiveValue s (value_now p written)
+  pub second-live : (target written : Term) → first_of (map (λ start. dead s (start_value s p.variables start)) ((way target).start ∷ (way written).start ∷ [])) ≡ None → LiveValue s (value_now p written)
   second-live target written h =
       term-live s g.nearly p.variables written (dead-none s (start_value s p.variables (way written).start)
       (first-none (dead s (start_value s p.variables (way written).start)) [] (others-none (dead s (start_value s p.variables (way target).start)) _ h)))
 
   -- ---- set
 
-  set-by : (feature : List ℕ) (target written : Term) (c : Called Attribute) → called s.schema feature ≡ c
+  pub set-by : (feature : List ℕ) (target written : Term) (c : Called Attribute) → called s.schema feature ≡ c
       → set_refused s.schema names feature target written c ≡ None
       → first_of (map (λ start. dead s (start_value s p.variables start)) ((way target).start ∷ (way written).start ∷ [])) ≡ None
       → first_of (map (λ f. too_long f.attribute.kind f.value) (set_fillings (value_now p written) c)) ≡ None
@@ -192,10 +192,10 @@ module _ (p : Present) (g : IsLegal p.state) where
 
   -- ---- add-to-set and delete-from-set
 
-  is-set : (feature : List ℕ) (a : Attribute) → (if a.many then None else Some (NotASet feature)) ≡ None → a.many ≡ true
+  pub is-set : (feature : List ℕ) (a : Attribute) → (if a.many then None else Some (NotASet feature)) ≡ None → a.many ≡ true
   is-set feature a h = when-none a.many (NotASet feature) h
 
-  add-by : (feature : List ℕ) (target written : Term) (c : Called Attribute) → called s.schema feature ≡ c
+  pub add-by : (feature : List ℕ) (target written : Term) (c : Called Attribute) → called s.schema feature ≡ c
       → member_refused s.schema names feature target written c ≡ None
       → first_of (map (λ start. dead s (start_value s p.variables start)) ((way target).start ∷ (way written).start ∷ [])) ≡ None
       → first_of (map (λ f. too_long f.attribute.kind f.value) (member_fillings (value_now p written) c)) ≡ None
@@ -231,7 +231,7 @@ module _ (p : Present) (g : IsLegal p.state) where
   add-kept feature target written h =
       add-by feature target written (called s.schema feature) refl h.text h.live h.long h.null h.shared (value_now p target) refl
 
-  take-by : (feature : List ℕ) (target written : Term) (c : Called Attribute) → called s.schema feature ≡ c
+  pub take-by : (feature : List ℕ) (target written : Term) (c : Called Attribute) → called s.schema feature ≡ c
       → member_refused s.schema names feature target written c ≡ None → (v : Value) → IsLegal (takes s c v (value_now p written))
   take-by feature target written Nothing e text value.Null = g
   take-by feature target written Nothing e text (value.Int _) = g
@@ -255,7 +255,7 @@ module _ (p : Present) (g : IsLegal p.state) where
 
   -- ---- delete-entity
 
-  none-needed : (e : EntityId) (a : Attribute) → needed s e a ≡ None → unneeded s e a ≡ true
+  pub none-needed : (e : EntityId) (a : Attribute) → needed s e a ≡ None → unneeded s e a ≡ true
   none-needed e a h =
       either a.no_nulls (λ b. (if b then needed_by s.schema a (find (is_other (Some e)) (turned a.number (value.Entity e) s.triples)) else None) ≡ None
       → (not b || is_none (find (λ other. not (same_entity e other)) (turned a.number (value.Entity e) s.triples))) ≡ true)
@@ -265,12 +265,12 @@ module _ (p : Present) (g : IsLegal p.state) where
       by None k = refl
       by (Some x) k = cc
 
-  all-unneeded : (e : EntityId) (xs : List Attribute) → first_of (map (needed s e) xs) ≡ None → list_all (unneeded s e) xs ≡ true
+  pub all-unneeded : (e : EntityId) (xs : List Attribute) → first_of (map (needed s e) xs) ≡ None → list_all (unneeded s e) xs ≡ true
   all-unneeded e [] h = refl
   all-unneeded e (a ∷ xs) h =
       both (unneeded s e a) (list_all (unneeded s e) xs) (none-needed e a (first-none (needed s e a) _ h)) (all-unneeded e xs (others-none (needed s e a) _ h))
 
-  delete-by : (v : Value) → needed_value s v ≡ None → IsLegal (deletes s v)
+  pub delete-by : (v : Value) → needed_value s v ≡ None → IsLegal (deletes s v)
   delete-by value.Null h = g
   delete-by (value.Int _) h = g
   delete-by (value.Bool _) h = g

@@ -53,7 +53,7 @@ pub all-map : {X Y : Type 0} (f : X → Y) (q : Y → Bool) (xs : List X) → li
 all-map f q [] h = refl
 all-map f q (x ∷ xs) h = both (q (f x)) (list_all (λ y. q (f y)) xs) (left (q (f x)) (list_all q (map f xs)) h) (all-map f q xs (right (q (f x)) (list_all q (map f xs)) h))
 
-pairs-unmap : {X Y : Type 0} (r : Y → Y → Bool) (f : X → Y) (xs : List X) → each_pair r (map f xs) ≡ true → each_pair (λ x y. r (f x) (f y)) xs ≡ true
+pub pairs-unmap : {X Y : Type 0} (r : Y → Y → Bool) (f : X → Y) (xs : List X) → each_pair r (map f xs) ≡ true → each_pair (λ x y. r (f x) (f y)) xs ≡ true
 pairs-unmap r f [] h = refl
 pairs-unmap r f (x ∷ xs) h =
     both (list_all (λ y. r (f x) (f y)) xs) (each_pair (λ y z. r (f y) (f z)) xs) (all-map f (r (f x)) xs (left (list_all (r (f x)) (map f xs)) (each_pair r (map f xs)) h))
@@ -64,18 +64,18 @@ pub own-names : (cells : List Cell) → have_own_names cells ≡ true → each_p
 own-names cells h = pairs-unmap (λ a b. not (bytes_eq b a)) (λ (cell : Cell). cell.name) cells h
 
 -- what is kept passes, if it is there
-abbrev if_there : {Y : Type 0} → (Y → Bool) → Option Y → Bool
+abbrev pub if_there : {Y : Type 0} → (Y → Bool) → Option Y → Bool
 if_there q None = true
 if_there q (Some y) = q y
 
-all-kept-there : {X Y : Type 0} (f : X → Option Y) (q : Y → Bool) (xs : List X) → list_all q (filter_map f xs) ≡ true → list_all (λ x. if_there q (f x)) xs ≡ true
+pub all-kept-there : {X Y : Type 0} (f : X → Option Y) (q : Y → Bool) (xs : List X) → list_all q (filter_map f xs) ≡ true → list_all (λ x. if_there q (f x)) xs ≡ true
 all-kept-there f q [] h = refl
 all-kept-there f q (x ∷ xs) h =
     option-cases (f x) (λ o. list_all q (cons_option o (filter_map f xs)) ≡ true → (if_there q o && list_all (λ y. if_there q (f y)) xs) ≡ true)
     (λ _ k. all-kept-there f q xs k)
     (λ y _ k. both (q y) (list_all (λ z. if_there q (f z)) xs) (left (q y) (list_all q (filter_map f xs)) k) (all-kept-there f q xs (right (q y) (list_all q (filter_map f xs)) k))) h
 
-within-itself : (k : ℕ) (parents : List (List ℕ)) (t : ℕ) → isa_within k parents t t ≡ true
+pub within-itself : (k : ℕ) (parents : List (List ℕ)) (t : ℕ) → isa_within k parents t t ≡ true
 within-itself zero parents t = number-itself t
 within-itself (suc k) parents t = first-of (t == t) (list_any (λ p. isa_within k parents p t) (slice_index_or parents t [])) (number-itself t)
 
@@ -97,47 +97,47 @@ named-there schema name t h = by (nat_lt (position_or_len (λ other. bytes_eq ot
     by false e k = absurd (none t k)
 
 module _ (p : Present) (g : IsLegal p.state) (t : ℕ) where
-  abbrev s : State
+  abbrev pub s : State
   s = p.state
 
   -- whether each cell's value was checked for its attribute's place, and is live
-  abbrev Checked : List Cell → Type 0
+  abbrev pub Checked : List Cell → Type 0
   Checked cells = list_all (λ c. is_none (term_refused s.schema (known p.variables) (expected_in (attribute_of s.schema t c.name)) c.value)) cells ≡ true
 
-  abbrev Lives : List Cell → Type 0
+  abbrev pub Lives : List Cell → Type 0
   Lives cells = list_all (λ c. is_none (dead s (start_value s p.variables (way c.value).start))) cells ≡ true
 
-  abbrev Distinct : List Cell → Type 0
+  abbrev pub Distinct : List Cell → Type 0
   Distinct cells = each_pair (λ a b. not (bytes_eq b.name a.name)) cells ≡ true
 
-  cell-sort : (cells : List Cell) → Checked cells → (c : Cell) → Member c cells → (a : Attribute) → attribute_of s.schema t c.name ≡ Some a
+  pub cell-sort : (cells : List Cell) → Checked cells → (c : Cell) → Member c cells → (a : Attribute) → attribute_of s.schema t c.name ≡ Some a
       → store_well s.schema (kind_sort a.kind) (value_sort (value_now p c.value)) ≡ true
   cell-sort cells h c m a f =
       term-sort s g.nearly p.variables (kind_sort a.kind) c.value
       (subst (λ o. term_refused s.schema (known p.variables) (expected_in o) c.value ≡ None) f
       (none-is _ (m (λ c. is_none (term_refused s.schema (known p.variables) (expected_in (attribute_of s.schema t c.name)) c.value)) h)))
 
-  cell-live : (cells : List Cell) → Lives cells → (c : Cell) → Member c cells → LiveValue s (value_now p c.value)
+  pub cell-live : (cells : List Cell) → Lives cells → (c : Cell) → Member c cells → LiveValue s (value_now p c.value)
   cell-live cells h c m =
       term-live s g.nearly p.variables c.value
       (dead-none s (start_value s p.variables (way c.value).start) (none-is _ (m (λ c. is_none (dead s (start_value s p.variables (way c.value).start))) h)))
 
   -- the cell of an attribute is there, and has the value of the cell that is named so
-  abbrev same_given : Cell → Option Cell → Bool
+  abbrev pub same_given : Cell → Option Cell → Bool
   same_given c None = false
   same_given c (Some d) = same_value (value_now p d.value) (value_now p c.value)
 
-  cell-same : (cells : List Cell) → Distinct cells → (c : Cell) → Member c cells → (a : Attribute) → bytes_eq a.name c.name ≡ true → same_given c (cell_of cells a) ≡ true
+  pub cell-same : (cells : List Cell) → Distinct cells → (c : Cell) → Member c cells → (a : Attribute) → bytes_eq a.name c.name ≡ true → same_given c (cell_of cells a) ≡ true
   cell-same cells d c m a n =
       subst (λ z. same_given c (find (λ cell. bytes_eq cell.name z) cells) ≡ true) (sym (name-is a.name c.name n))
       (m (λ b. same_given b (find (λ cell. bytes_eq cell.name b.name) cells)) (named-found (λ (cell : Cell). cell.name) same_given (λ b. same_value-itself (value_now p b.value)) cells d))
 
-  given-same : (c : Cell) (o : Option Cell) → same_given c o ≡ true → given p o ≡ value_now p c.value
+  pub given-same : (c : Cell) (o : Option Cell) → same_given c o ≡ true → given p o ≡ value_now p c.value
   given-same c None h = absurd (true≢false (sym h))
   given-same c (Some d) h = same_value-is (value_now p d.value) (value_now p c.value) h
 
   -- nobody has a unique value, so nobody but the entity has
-  lone : (e : EntityId) (filled : Option EntityId) (a : Attribute) (v : Value) (w : Bool) → ((o : EntityId) → not (is_other filled o) ≡ true → same_entity e o ≡ true)
+  pub lone : (e : EntityId) (filled : Option EntityId) (a : Attribute) (v : Value) (w : Bool) → ((o : EntityId) → not (is_other filled o) ≡ true → same_entity e o ≡ true)
       → shared s filled (record { attribute = a; value = v; wanted = w }) ≡ None → a.unique ≡ true
       → list_all (λ u. same_entity e u.entity || not ((u.attribute == a.number) && same_value u.value v)) s.triples ≡ true
   lone e filled a v w own h u =
@@ -153,19 +153,19 @@ module _ (p : Present) (g : IsLegal p.state) (t : ℕ) where
       (longs : first_of (map (λ f. too_long f.attribute.kind f.value) (new_fillings p t cells is_key)) ≡ None)
       (nulls : first_of (map (missing s.schema) (new_fillings p t cells is_key)) ≡ None)
       (shares : first_of (map (shared s None) (new_fillings p t cells is_key)) ≡ None) where
-    abbrev filling : Attribute → Filling
+    abbrev pub filling : Attribute → Filling
     filling a = record { attribute = a; value = given p (cell_of cells a); wanted = a.no_nulls || is_key a }
 
-    abbrev fresh : EntityId
+    abbrev pub fresh : EntityId
     fresh = next_entity s t
 
-    abbrev made : State
+    abbrev pub made : State
     made = entity_made s t
 
-    passes-filling : (f : Filling → Option Refusal) → first_of (map f (new_fillings p t cells is_key)) ≡ None → (a : Attribute) → Member a (attributes_in s.schema t) → f (filling a) ≡ None
+    pub passes-filling : (f : Filling → Option Refusal) → first_of (map f (new_fillings p t cells is_key)) ≡ None → (a : Attribute) → Member a (attributes_in s.schema t) → f (filling a) ≡ None
     passes-filling f h a m = none-is (f (filling a)) (m (λ b. is_none (f (filling b))) (all-map filling (λ x. is_none (f x)) (attributes_in s.schema t) (each-none f (new_fillings p t cells is_key) h)))
 
-    can-set : (c : Cell) → Member c cells → (a : Attribute) → attribute_of s.schema t c.name ≡ Some a → CanSet fresh t made a (value_now p c.value)
+    pub can-set : (c : Cell) → Member c cells → (a : Attribute) → attribute_of s.schema t c.name ≡ Some a → CanSet fresh t made a (value_now p c.value)
     can-set c m a f =
         let at = found s.schema g.nearly.consistent t c.name a f in
         let same : given p (cell_of cells a) ≡ value_now p c.value = given-same c (cell_of cells a) (cell-same cells distinct c m a at.named) in
@@ -177,10 +177,10 @@ module _ (p : Present) (g : IsLegal p.state) (t : ℕ) where
               (lone fresh None a (given p (cell_of cells a)) (a.no_nulls || is_key a) (λ o k. absurd (true≢false (sym k))) (passes-filling (shared s None) shares a at.member) u);
         }
 
-    abbrev after : State
+    abbrev pub after : State
     after = cells_set t fresh cells (cell_values p cells) made
 
-    nearly-after : IsNearlyLegal after
+    pub nearly-after : IsNearlyLegal after
     nearly-after =
         cells-nearly fresh t cells (cell_values p cells) made (made-nearly s t g.nearly there) (fresh-live s t g.nearly there) (within-itself t s.schema.parents t)
         (can-all fresh t made (λ c. value_now p c.value) cells can-set)
@@ -223,7 +223,7 @@ module _ (p : Present) (g : IsLegal p.state) (t : ℕ) where
       (longs : first_of (map (λ f. too_long f.attribute.kind f.value) (cell_fillings p t cells)) ≡ None)
       (nulls : first_of (map (missing s.schema) (cell_fillings p t cells)) ≡ None)
       (shares : first_of (map (shared s (Some e)) (cell_fillings p t cells)) ≡ None) where
-    passes-cell : (f : Filling → Option Refusal) → first_of (map f (cell_fillings p t cells)) ≡ None → (c : Cell) → Member c cells → (a : Attribute) → attribute_of s.schema t c.name ≡ Some a
+    pub passes-cell : (f : Filling → Option Refusal) → first_of (map f (cell_fillings p t cells)) ≡ None → (c : Cell) → Member c cells → (a : Attribute) → attribute_of s.schema t c.name ≡ Some a
         → f (record { attribute = a; value = value_now p c.value; wanted = a.no_nulls }) ≡ None
     passes-cell f h c m a k =
         let at = found s.schema g.nearly.consistent t c.name a k in
@@ -237,7 +237,7 @@ module _ (p : Present) (g : IsLegal p.state) (t : ℕ) where
             subst (λ v. f (record { attribute = a; value = v; wanted = a.no_nulls }) ≡ None) (same_value-is (value_now p d.value) (value_now p c.value) n)
             (none-is (f (record { attribute = a; value = value_now p d.value; wanted = a.no_nulls })) i)
 
-    can-set-found : (c : Cell) → Member c cells → (a : Attribute) → attribute_of s.schema t c.name ≡ Some a → CanSet e t s a (value_now p c.value)
+    pub can-set-found : (c : Cell) → Member c cells → (a : Attribute) → attribute_of s.schema t c.name ≡ Some a → CanSet e t s a (value_now p c.value)
     can-set-found c m a f = record {
       held = λ n. storable s a.kind (value_now p c.value) (cell-sort cells checked c m a f) (cell-live cells lives c m) (passes-cell (λ x. too_long x.attribute.kind x.value) longs c m a f) n;
       alone = λ u. lone e (Some e) a (value_now p c.value) a.no_nulls (λ o k. twice (same_entity e o) k) (passes-cell (shared s (Some e)) shares c m a f) u;

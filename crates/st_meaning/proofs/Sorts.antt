@@ -45,7 +45,7 @@ use Rattle.st_meaning.proofs.Descent.{isa-chain}
 
 -- ---- refusals
 
-some-none : {A : Type 0} (a : A) → Some a ≡ None → ⊥
+pub some-none : {A : Type 0} (a : A) → Some a ≡ None → ⊥
 some-none a e = cc
 
 -- where the first of several is none, each is
@@ -96,13 +96,13 @@ store-chain schema t (sort.Entity w) (sort.Entity u) sort.Int n h k = absurd (tr
 store-chain schema t (sort.Entity w) (sort.Entity u) sort.Bool n h k = absurd (true≢false (sym k))
 store-chain schema t (sort.Entity w) (sort.Entity u) sort.Text n h k = absurd (true≢false (sym k))
 
-kind_sort-some : (k : Kind) → kind_sort k ≡ sort.Null → ⊥
+pub kind_sort-some : (k : Kind) → kind_sort k ≡ sort.Null → ⊥
 kind_sort-some kind.Int e = cc
 kind_sort-some kind.Bool e = cc
 kind_sort-some (kind.Text limit) e = cc
 kind_sort-some (kind.Entity ty) e = cc
 
-null-stores : (schema : Outline) (a : Sort) → store_well schema a sort.Null ≡ true
+pub null-stores : (schema : Outline) (a : Sort) → store_well schema a sort.Null ≡ true
 null-stores schema sort.Null = refl
 null-stores schema sort.Int = refl
 null-stores schema sort.Bool = refl
@@ -115,11 +115,11 @@ null-stores schema (sort.Entity ty) = refl
 abbrev pub LiveValue : State → Value → Type 0
 LiveValue s v = (e : EntityId) → v ≡ value.Entity e → is_live s e ≡ true
 
-not-entity : (v : Value) (e : EntityId) → (v ≡ value.Null) → v ≡ value.Entity e → ⊥
+pub not-entity : (v : Value) (e : EntityId) → (v ≡ value.Null) → v ≡ value.Entity e → ⊥
 not-entity v e h k = cc
 
 module _ (s : State) (n : IsNearlyLegal s) where
-  held-sort : (k : Kind) (v : Value) → can_hold s k v ≡ true → store_well s.schema (kind_sort k) (value_sort v) ≡ true
+  pub held-sort : (k : Kind) (v : Value) → can_hold s k v ≡ true → store_well s.schema (kind_sort k) (value_sort v) ≡ true
   held-sort kind.Int (value.Int i) h = refl
   held-sort kind.Int value.Null h = refl
   held-sort kind.Int (value.Bool b) h = h
@@ -141,7 +141,7 @@ module _ (s : State) (n : IsNearlyLegal s) where
   held-sort (kind.Entity ty) (value.Bool t) h = h
   held-sort (kind.Entity ty) (value.Text e) h = h
 
-  held-live : (k : Kind) (v : Value) → can_hold s k v ≡ true → (e : EntityId) → v ≡ value.Entity e → is_live s e ≡ true
+  pub held-live : (k : Kind) (v : Value) → can_hold s k v ≡ true → (e : EntityId) → v ≡ value.Entity e → is_live s e ≡ true
   held-live k v h e eq = by k (subst (λ w. can_hold s k w ≡ true) eq h)
     where
       by : (k : Kind) → can_hold s k (value.Entity e) ≡ true → is_live s e ≡ true
@@ -151,7 +151,7 @@ module _ (s : State) (n : IsNearlyLegal s) where
       by (kind.Entity ty) h = right (isa s.schema e.ty ty) (is_live s e) h
 
   -- the value that is found for an attribute of an entity: null, or one that the attribute can hold
-  found-held : (a : Attribute) (e : EntityId) → attribute s.schema a.number ≡ Some a → (ts : List Triple) → list_all (is_sound s) ts ≡ true
+  pub found-held : (a : Attribute) (e : EntityId) → attribute s.schema a.number ≡ Some a → (ts : List Triple) → list_all (is_sound s) ts ≡ true
       → (P : Value → Type 0) → P value.Null → ((v : Value) → can_hold s a.kind v ≡ true → P v) → P (value_in (find (is_at a.number e) ts))
   found-held a e f [] h P z g = z
   found-held a e f (t ∷ ts) h P z g =
@@ -166,7 +166,7 @@ module _ (s : State) (n : IsNearlyLegal s) where
       (λ k. found-held a e f ts (right (is_sound s t) (list_all (is_sound s) ts) h) P z g)
 
   -- what a feature gives where a single value is wanted
-  attribute-gives : (a : Attribute) (v : Value) → attribute s.schema a.number ≡ Some a → (P : Value → Type 0) → P value.Null → ((w : Value) → can_hold s a.kind w ≡ true → P w) → P (single (attribute_value s a v))
+  pub attribute-gives : (a : Attribute) (v : Value) → attribute s.schema a.number ≡ Some a → (P : Value → Type 0) → P value.Null → ((w : Value) → can_hold s a.kind w ≡ true → P w) → P (single (attribute_value s a v))
   attribute-gives a (value.Entity e) f P z g =
       either a.many (λ b. P (single (if b then Set (values_at a.number e s.triples) else Single (value_at a.number e s.triples)))) (λ _. z) (λ _. found-held a e f s.triples n.sound P z g)
   attribute-gives a value.Null f P z g = either a.many (λ b. P (single (if b then Set [] else Single value.Null))) (λ _. z) (λ _. z)
@@ -174,7 +174,7 @@ module _ (s : State) (n : IsNearlyLegal s) where
   attribute-gives a (value.Bool _) f P z g = either a.many (λ b. P (single (if b then Set [] else Single value.Null))) (λ _. z) (λ _. z)
   attribute-gives a (value.Text _) f P z g = either a.many (λ b. P (single (if b then Set [] else Single value.Null))) (λ _. z) (λ _. z)
 
-  inverse-gives : (a : Attribute) (v : Value) → single (inverse_value s a v) ≡ value.Null
+  pub inverse-gives : (a : Attribute) (v : Value) → single (inverse_value s a v) ≡ value.Null
   inverse-gives a (value.Entity e) = refl
   inverse-gives a value.Null = refl
   inverse-gives a (value.Int _) = refl
@@ -184,7 +184,7 @@ module _ (s : State) (n : IsNearlyLegal s) where
 -- ---- terms
 
 -- an attribute that is called by a name is found by its number
-number-found : (number : ℕ) (a : Attribute) (xs : List Attribute) → find (λ x. x.number == number) xs ≡ Some a → (a.number == number) ≡ true
+pub number-found : (number : ℕ) (a : Attribute) (xs : List Attribute) → find (λ x. x.number == number) xs ≡ Some a → (a.number == number) ≡ true
 number-found number a [] f = absurd (some-none a (sym f))
 number-found number a (x ∷ xs) f =
     either (x.number == number) (λ _. (a.number == number) ≡ true)
@@ -194,7 +194,7 @@ number-found number a (x ∷ xs) f =
     some-is : (x a : Attribute) → Some x ≡ Some a → x ≡ a
     some-is x a e = cc
 
-own-found : (schema : Outline) (number : ℕ) (a : Attribute) → own (attribute schema number) ≡ Own a → attribute schema a.number ≡ Some a
+pub own-found : (schema : Outline) (number : ℕ) (a : Attribute) → own (attribute schema number) ≡ Own a → attribute schema a.number ≡ Some a
 own-found schema number a h = by (attribute schema number) refl h
   where
     nothing : Nothing ≡ Own a → ⊥
@@ -209,7 +209,7 @@ own-found schema number a h = by (attribute schema number) refl h
         let f : attribute schema number ≡ Some a = e ∙ ap Some (inside b k) in
         subst (λ z. attribute schema z ≡ Some a) (sym (number-is a.number number (number-found number a schema.attributes f))) f
 
-inverse-apart : (schema : Outline) (number : ℕ) (a : Attribute) → inverse (attribute schema number) ≡ Own a → ⊥
+pub inverse-apart : (schema : Outline) (number : ℕ) (a : Attribute) → inverse (attribute schema number) ≡ Own a → ⊥
 inverse-apart schema number a h = by (attribute schema number) h
   where
     by : (o : Option Attribute) → inverse o ≡ Own a → ⊥
@@ -225,11 +225,11 @@ called-own schema name a h = by (lookup schema name) h
     by (Some (feature.Inverse number)) e = absurd (inverse-apart schema number a e)
 
 module _ (s : State) (n : IsNearlyLegal s) (variables : List Variable) where
-  null-live : LiveValue s value.Null
+  pub null-live : LiveValue s value.Null
   null-live e h = absurd (not-entity value.Null e refl h)
 
   -- what a feature gives is live
-  feature-live : (name : List ℕ) (v : Value) → LiveValue s (single (feature_value s (called s.schema name) v))
+  pub feature-live : (name : List ℕ) (v : Value) → LiveValue s (single (feature_value s (called s.schema name) v))
   feature-live name v = by (called s.schema name) refl
     where
       by : (c : Called Attribute) → called s.schema name ≡ c → LiveValue s (single (feature_value s c v))
@@ -237,7 +237,7 @@ module _ (s : State) (n : IsNearlyLegal s) (variables : List Variable) where
       by (Own a) h = attribute-gives s n a v (called-own s.schema name a h) (LiveValue s) null-live (λ w k. held-live s n a.kind w k)
       by (Inverse a) h = subst (LiveValue s) (sym (inverse-gives s n a v)) null-live
 
-  features-live : (features : List (List ℕ)) (v : Value) → LiveValue s v → LiveValue s (single (features_value s features v))
+  pub features-live : (features : List (List ℕ)) (v : Value) → LiveValue s v → LiveValue s (single (features_value s features v))
   features-live [] v h = h
   features-live (name ∷ names) v h = feature-live name (single (features_value s names v))
 
@@ -245,17 +245,17 @@ module _ (s : State) (n : IsNearlyLegal s) (variables : List Variable) where
   unfolding term_meaning
   term-live term h = features-live (way term).features (start_value s variables (way term).start) h
 
-  chain : (a b c : Sort) → (b ≡ sort.Null → ⊥) → store_well s.schema a b ≡ true → store_well s.schema b c ≡ true → store_well s.schema a c ≡ true
+  pub chain : (a b c : Sort) → (b ≡ sort.Null → ⊥) → store_well s.schema a b ≡ true → store_well s.schema b c ≡ true → store_well s.schema a c ≡ true
   chain = store-chain s.schema (isa-chain s.schema n.orderly)
 
-  fit-none : (expected : Expected) (name : List ℕ) (typing : Typing) → fit_or_refused s.schema expected name (Some typing) ≡ None → fits s.schema expected typing ≡ true
+  pub fit-none : (expected : Expected) (name : List ℕ) (typing : Typing) → fit_or_refused s.schema expected name (Some typing) ≡ None → fits s.schema expected typing ≡ true
   fit-none expected name typing h = when-none (fits s.schema expected typing) WrongType h
 
-  unknown-none : (expected : Expected) (name : List ℕ) → fit_or_refused s.schema expected name None ≡ None → ⊥
+  pub unknown-none : (expected : Expected) (name : List ℕ) → fit_or_refused s.schema expected name None ≡ None → ⊥
   unknown-none expected name h = cc
 
   -- what a term begins with is of the sort that was checked
-  start-sort : (b : Sort) (start : Start) → fit_or_refused s.schema (Storable b) (start_name start) (start_typing s.schema (known variables) start) ≡ None → store_well s.schema b (value_sort (start_value s variables start)) ≡ true
+  pub start-sort : (b : Sort) (start : Start) → fit_or_refused s.schema (Storable b) (start_name start) (start_typing s.schema (known variables) start) ≡ None → store_well s.schema b (value_sort (start_value s variables start)) ≡ true
   start-sort b (Written (literal.Entity ty serial)) h = by (type_named s.schema ty) h
     where
       by : (o : Option ℕ) → fit_or_refused s.schema (Storable b) ty (entity_typing o) ≡ None → store_well s.schema b (value_sort (entity_value o serial)) ≡ true
@@ -275,10 +275,10 @@ module _ (s : State) (n : IsNearlyLegal s) (variables : List Variable) where
           (λ _ m. fit-none (Storable b) name (One (value_sort v.value)) m) (λ _ m. by vs m) k
 
   -- a set fits no place of a single value
-  single-typing : (b : Sort) (a : Attribute) → fits s.schema (Storable b) (attribute_typing a) ≡ true → store_well s.schema b (kind_sort a.kind) ≡ true
+  pub single-typing : (b : Sort) (a : Attribute) → fits s.schema (Storable b) (attribute_typing a) ≡ true → store_well s.schema b (kind_sort a.kind) ≡ true
   single-typing b a h = either a.many (λ c. fits s.schema (Storable b) (if c then Many (kind_sort a.kind) else One (kind_sort a.kind)) ≡ true → store_well s.schema b (kind_sort a.kind) ≡ true) (λ _ m. absurd (true≢false (sym m))) (λ _ m. m) h
 
-  way-sort : (b : Sort) (features : List (List ℕ)) (start : Start) → way_refused s.schema (known variables) (Storable b) features start ≡ None
+  pub way-sort : (b : Sort) (features : List (List ℕ)) (start : Start) → way_refused s.schema (known variables) (Storable b) features start ≡ None
       → store_well s.schema b (value_sort (single (features_value s features (start_value s variables start)))) ≡ true
   way-sort b [] start h = start-sort b start h
   way-sort b (name ∷ names) start h =

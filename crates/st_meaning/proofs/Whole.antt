@@ -34,27 +34,27 @@ use Rattle.st_meaning.proofs.Cells.{option-cases}
 use Rattle.st_meaning.proofs.Making.{each-none, all-map, own-names, none-is, is-none, named-there, made-legal, found-legal}
 
 module _ (p : Present) (g : IsLegal p.state) where
-  abbrev s : State
+  abbrev pub s : State
   s = p.state
 
   -- the checks of cells, each by itself
-  cell-checked : (t : ℕ) (c : Cell) → is_none (cell_refused s.schema (known p.variables) t c) ≡ true → is_none (term_refused s.schema (known p.variables) (expected_in (attribute_of s.schema t c.name)) c.value) ≡ true
+  pub cell-checked : (t : ℕ) (c : Cell) → is_none (cell_refused s.schema (known p.variables) t c) ≡ true → is_none (term_refused s.schema (known p.variables) (expected_in (attribute_of s.schema t c.name)) c.value) ≡ true
   cell-checked t c h =
       is-none _ (first-none (term_refused s.schema (known p.variables) (expected_in (attribute_of s.schema t c.name)) c.value) []
       (others-none (cell_name_refused c.name (attribute_of s.schema t c.name)) _ (none-is _ h)))
 
-  cells-checked : (t : ℕ) (cells : List Cell) → cells_refused s.schema (known p.variables) t cells ≡ None
+  pub cells-checked : (t : ℕ) (cells : List Cell) → cells_refused s.schema (known p.variables) t cells ≡ None
       → list_all (λ c. is_none (term_refused s.schema (known p.variables) (expected_in (attribute_of s.schema t c.name)) c.value)) cells ≡ true
   cells-checked t cells h =
       all-weaken (λ c. is_none (cell_refused s.schema (known p.variables) t c)) _ (cell-checked t) cells (each-none (cell_refused s.schema (known p.variables) t) cells h)
 
-  key-checked : (t : ℕ) (key : Cell) → key_refused s.schema (known p.variables) t key.name key.value ≡ None → is_none (term_refused s.schema (known p.variables) (expected_in (attribute_of s.schema t key.name)) key.value) ≡ true
+  pub key-checked : (t : ℕ) (key : Cell) → key_refused s.schema (known p.variables) t key.name key.value ≡ None → is_none (term_refused s.schema (known p.variables) (expected_in (attribute_of s.schema t key.name)) key.value) ≡ true
   key-checked t key h =
       is-none _ (first-none (term_refused s.schema (known p.variables) (expected_in (attribute_of s.schema t key.name)) key.value) []
       (others-none (key_name_refused key.name (attribute_of s.schema t key.name)) _ h))
 
   -- the values of cells are live
-  cells-live : (cells : List Cell) → first_of (map (λ start. dead s (start_value s p.variables start)) (map (λ term. (way term).start) (map (λ cell. cell.value) cells))) ≡ None
+  pub cells-live : (cells : List Cell) → first_of (map (λ start. dead s (start_value s p.variables start)) (map (λ term. (way term).start) (map (λ cell. cell.value) cells))) ≡ None
       → list_all (λ c. is_none (dead s (start_value s p.variables (way c.value).start))) cells ≡ true
   cells-live cells h =
       all-map (λ (cell : Cell). cell.value) (λ term. is_none (dead s (start_value s p.variables (way term).start))) cells
@@ -63,7 +63,7 @@ module _ (p : Present) (g : IsLegal p.state) where
 
   -- ---- make
 
-  make-kept : (var ty : List ℕ) (cells : List Cell) → have_own_names cells ≡ true → Passes p (Make var ty cells) → IsLegal (does p (Make var ty cells)).state
+  pub make-kept : (var ty : List ℕ) (cells : List Cell) → have_own_names cells ≡ true → Passes p (Make var ty cells) → IsLegal (does p (Make var ty cells)).state
   make-kept var ty cells d h = by (type_named s.schema ty) refl h.text h.long h.null h.shared
     where
       by : (o : Option ℕ) → type_named s.schema ty ≡ o → typed_refused ty (λ t. cells_refused s.schema (known p.variables) t cells) o ≡ None
@@ -76,7 +76,7 @@ module _ (p : Present) (g : IsLegal p.state) where
   -- ---- ensure
 
   -- an entity that is found is live and of the type
-  held-live : (a : Attribute) (v : Value) → list_all (is_live s) (turned a.number v s.triples) ≡ true
+  pub held-live : (a : Attribute) (v : Value) → list_all (is_live s) (turned a.number v s.triples) ≡ true
   held-live a v = along s.triples g.nearly.sound
     where
       along : (ts : List Triple) → list_all (is_sound s) ts ≡ true → list_all (is_live s) (map (λ x. x.entity) (filter (λ x. (x.attribute == a.number) && same_value x.value v) ts)) ≡ true
@@ -88,7 +88,7 @@ module _ (p : Present) (g : IsLegal p.state) where
           (along ts (right (is_sound s x) (list_all (is_sound s) ts) h)))
           (λ _. along ts (right (is_sound s x) (list_all (is_sound s) ts) h))
 
-  holder-live : (t : ℕ) (o : Option Attribute) (v : Value) (e : EntityId) → holder s t o v ≡ Some e → (is_live s e ≡ true) × (isa s.schema e.ty t ≡ true)
+  pub holder-live : (t : ℕ) (o : Option Attribute) (v : Value) (e : EntityId) → holder s t o v ≡ Some e → (is_live s e ≡ true) × (isa s.schema e.ty t ≡ true)
   holder-live t None v e h = absurd (nothing h)
     where
       nothing : None ≡ Some e → ⊥
@@ -96,7 +96,7 @@ module _ (p : Present) (g : IsLegal p.state) where
   holder-live t (Some a) v e h =
       (find-member (λ x. isa s.schema x.ty t) e (turned a.number v s.triples) h (is_live s) (held-live a v), find-passes (λ x. isa s.schema x.ty t) e (turned a.number v s.triples) h)
 
-  ensure-kept : (var ty : List ℕ) (key : Cell) (cells : List Cell) → have_own_names (key ∷ cells) ≡ true → Passes p (Ensure var ty (key ∷ cells)) → IsLegal (does p (Ensure var ty (key ∷ cells))).state
+  pub ensure-kept : (var ty : List ℕ) (key : Cell) (cells : List Cell) → have_own_names (key ∷ cells) ≡ true → Passes p (Ensure var ty (key ∷ cells)) → IsLegal (does p (Ensure var ty (key ∷ cells))).state
   ensure-kept var ty key cells d h = by (type_named s.schema ty) refl h.text h.long h.null h.shared
     where
       at : (t : ℕ) (there : t < length s.schema.names) → ensure_refused s.schema (known p.variables) t (key ∷ cells) ≡ None → (o : Option EntityId) → key_holder p t (key ∷ cells) ≡ o
@@ -139,7 +139,7 @@ module _ (p : Present) (g : IsLegal p.state) where
 
 -- ---- a transaction
 
-from-legal : (old : State) → IsLegal old → (n : ℕ) (p : Present) (ss : List Statement) → IsLegal p.state → list_all is_written ss ≡ true → IsLegal (runs_from old n p ss).state
+pub from-legal : (old : State) → IsLegal old → (n : ℕ) (p : Present) (ss : List Statement) → IsLegal p.state → list_all is_written ss ≡ true → IsLegal (runs_from old n p ss).state
 unfolding runs_statement
 from-legal old l n p [] g w = g
 from-legal old l n p (st ∷ ss) g w =
