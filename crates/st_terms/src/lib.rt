@@ -1,0 +1,8 @@
+//! What terms stand for, over any base.
+#![tactic(auto)]
+
+mod read;
+mod route;
+
+pub use read::{evaluate, term_meaning, term_value};
+pub use route::{Origin, Reading, Route, route_of};
