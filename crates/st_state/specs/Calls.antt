@@ -1,5 +1,5 @@
 -- What a base is asked: the calls on a state, what a state has to admit, by which rule a call has to be refused, and what it leaves.
-use Rattle.std.specs.Prelude.{ℕ, Bool, true, false, not, ◌&&◌, List, [], ◌∷◌, Option, Some, None, is_some, IsTrue}
+use Rattle.std.specs.Prelude.{ℕ, Bool, true, false, not, ◌&&◌, ◌||◌, if◌then◌else◌, List, [], ◌∷◌, Option, Some, None, is_some, IsTrue}
 use Rattle.st_values.specs.declared.value.EntityId.{EntityId}
 use Rattle.st_values.specs.declared.value.Value.{Value}
 use Rattle.st_values.specs.declared.value.Value.TheVariants.{Null}
@@ -7,7 +7,7 @@ use Rattle.st_lattice.specs.declared.attribute.Attribute.{Attribute}
 use Rattle.st_lattice.specs.declared.stores.StoreKind.TheVariants.{Extent}
 use Rattle.st_lattice.specs.Outline.{Outline, attribute}
 use Rattle.st_lattice.specs.Lattice.{isa}
-use Rattle.st_lattice.specs.Stores.{store, extents, cell, aside, found_by, deleted, passes}
+use Rattle.st_lattice.specs.Stores.{store, extents, index_of, inverse_of, cell, aside, deleted, passes}
 use Rattle.st_state.specs.declared.refusal.Refusal.{Refusal}
 use Rattle.st_state.specs.State.{State, is_live, entity_made, attribute_set, member_added, member_taken, entity_deleted}
 use Rattle.st_state.specs.Legal.{can_hold}
@@ -115,6 +115,11 @@ abbrev pub stores_by : (Attribute → List ℕ) → Option Attribute → List �
 stores_by stores None = []
 stores_by stores (Some a) = stores a
 
+-- Where the entities are found whose attribute has a value: its inverse, where it has one, else its index, which each unique
+-- attribute keeps, else its values.
+abbrev pub found_in : Outline → Attribute → List ℕ
+found_in schema a = if is_some a.inverse then inverse_of a else if a.index || a.unique then index_of a else cell schema a
+
 -- where an attribute of an entity is, with all that changes with it: the extent of the entity's type, and what the attribute has
 -- beside the extents
 abbrev pub changed_stores : Outline → EntityId → ℕ → List ℕ
@@ -129,6 +134,6 @@ call_stores schema (Set e number value) = changed_stores schema e number
 call_stores schema (Members e number) = stores_by (cell schema) (attribute schema number)
 call_stores schema (Add e number value) = changed_stores schema e number
 call_stores schema (Take e number value) = changed_stores schema e number
-call_stores schema (Turned number value) = stores_by (found_by schema) (attribute schema number)
+call_stores schema (Turned number value) = stores_by (found_in schema) (attribute schema number)
 call_stores schema (Delete e) = deleted schema e.ty
 call_stores schema (Listed ty) = extents schema ty

@@ -14,8 +14,8 @@ use Rattle.st_query.specs.Terms.{literal_value, variable_value}
 use Rattle.st_query.specs.declared.term.Term.{Term}
 use Rattle.st_query.specs.Ways.{Start, Written, Named, Way, way}
 use Rattle.st_state.specs.State.{State, value_at, values_at, turned}
-use Rattle.st_lattice.specs.Stores.{cell, found_by}
-use Rattle.st_state.specs.Calls.{Call, Get, Members, Turned, HasAttribute, Admits, stores_by}
+use Rattle.st_lattice.specs.Stores.{cell}
+use Rattle.st_state.specs.Calls.{Call, Get, Members, Turned, HasAttribute, Admits, stores_by, found_in}
 use Rattle.st_meaning.specs.declared.meaning.Meaning.{Meaning}
 use Rattle.st_meaning.specs.declared.meaning.Meaning.TheVariants.{Single, Set}
 use Rattle.st_meaning.specs.Terms.{single}
@@ -103,7 +103,7 @@ AdmitsWalk state (r ∷ rs) m = AdmitsReading state r (single m) × AdmitsWalk s
 abbrev pub reading_stores : Outline → Reading → List ℕ
 reading_stores schema (One number) = stores_by (cell schema) (attribute schema number)
 reading_stores schema (Many number) = stores_by (cell schema) (attribute schema number)
-reading_stores schema (Inverse number) = stores_by (found_by schema) (attribute schema number)
+reading_stores schema (Inverse number) = stores_by (found_in schema) (attribute schema number)
 reading_stores schema Nothing = []
 
 -- the places that are reached

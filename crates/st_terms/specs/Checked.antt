@@ -1,0 +1,28 @@
+-- Statements that were checked, as they are run over a base.
+use Rattle.std.specs.Prelude.{◌≡◌, ℕ, List, ◌++◌, flat_map, None, IsTrue}
+use Rattle.st_lattice.specs.Outline.{Outline}
+use Rattle.st_query.specs.declared.statement.Statement.{Statement}
+use Rattle.st_query.specs.declared.term.Variable.{Variable}
+use Rattle.st_query.specs.Written.{is_written, starts_of, terms_of}
+use Rattle.st_query.specs.Footprint.{start_stores, path_stores, effect_stores}
+use Rattle.st_state.specs.State.{State}
+use Rattle.st_state.specs.Legal.{IsLegal}
+use Rattle.st_meaning.specs.Statements.{Present}
+use Rattle.st_meaning.specs.Rules.{rules_1_2_7, rule_5}
+
+-- a state and variables
+abbrev pub present : State → List Variable → Present
+present state variables = record { state = state; variables = variables }
+
+-- A statement that can be written, in a legal state, of which the rules on names, kinds and sets, and then the one on entities that
+-- aren't live, refuse nothing.
+pub record IsChecked (p : Present) (statement : Statement) : Type 0 where
+  pub legal : IsLegal p.state
+  pub written : IsTrue (is_written statement)
+  pub text : rules_1_2_7 p statement ≡ None
+  pub live : rule_5 p statement ≡ None
+
+-- the stores that a statement may touch: those of its literals and variables, of its paths, and of what it does
+abbrev pub touched : Outline → List Variable → Statement → List ℕ
+touched schema variables statement =
+    flat_map (start_stores schema variables) (starts_of statement) ++ path_stores schema (terms_of statement) ++ effect_stores schema variables statement
