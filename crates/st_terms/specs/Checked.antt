@@ -1,6 +1,12 @@
 -- Statements that were checked, as they are run over a base.
-use Rattle.std.specs.Prelude.{◌≡◌, ℕ, List, ◌++◌, flat_map, None, IsTrue}
+use Rattle.std.specs.Prelude.{◌≡◌, ℕ, List, [], ◌∷◌, ◌++◌, flat_map, None, IsTrue}
+use Rattle.st_values.specs.declared.value.Value.{Value}
+use Rattle.st_values.specs.declared.value.Value.TheVariants.{Entity}
+use Rattle.st_lattice.specs.declared.attribute.Attribute.{Attribute}
+use Rattle.st_lattice.specs.declared.called.Called.{Called}
+use Rattle.st_lattice.specs.declared.called.Called.TheVariants.{Own}
 use Rattle.st_lattice.specs.Outline.{Outline}
+use Rattle.st_lattice.specs.Called.{called}
 use Rattle.st_query.specs.declared.statement.Statement.{Statement}
 use Rattle.st_query.specs.declared.statement.Statement.TheVariants.{Set, Print}
 use Rattle.st_query.specs.declared.term.Variable.{Variable}
