@@ -1,3 +1,4 @@
 pub mod Looking
 pub mod Walks
 pub mod Routes
+pub mod Admitted

@@ -139,7 +139,7 @@ features-walked s (name ∷ names) v =
     ∙ ap (λ m. reading_value s (reading_of (called s.schema name)) (single m)) (features-walked s names v)
     ∙ reading-is s (called s.schema name) (single (features_value s names v))
 
-start-is : (s : State) (variables : List Variable) (start : Start) → origin_value (origin_of s.schema variables None start) None ≡ start_value s variables start
+pub start-is : (s : State) (variables : List Variable) (start : Start) → origin_value (origin_of s.schema variables None start) None ≡ start_value s variables start
 start-is s variables (Written written) = refl
 start-is s variables (Named name) = refl
 
