@@ -4,3 +4,4 @@ pub mod Routes
 pub mod Admitted
 pub mod Queried
 pub mod Stores
+pub mod Loops

@@ -1,0 +1,6 @@
+//! What a print and a for-each answer, over any base.
+#![tactic(auto)]
+
+mod tails;
+
+pub use tails::print;
