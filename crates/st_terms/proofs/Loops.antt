@@ -84,3 +84,17 @@ loop-end xs i h = ap (λ n. take n xs) h ∙ take-length xs
 pub handed : {C : Type 0} (P : Result C BaseFault → Type 0) (e : BaseFault) (r : Result C BaseFault) → IsErr r × IsErrAnd r (λ x. x ≡ e) → P (Err e) → P r
 handed P e (Ok y) h p = absurd (true≢false (sym h.0))
 handed P e (Err x) h p = subst (λ z. P (Err z)) (sym h.1) p
+
+-- what a loop gives that came to its end
+pub loop-done : {X A : Type 0} (xs : List X) (i : ℕ) → i ≡ length xs → (stores : X → List ℕ) (places : X → List Place) (stands : Type 0) (asks : List Asked → Type 0) (got : EntityId → ℕ → Type 0)
+    (right : List X → Type 0) (right_then : A → Type 0) (y : A) → (right xs → right_then y)
+    → Looks stands asks got (λ (_ : Unit {0}). right (take i xs)) (flat_map stores (take i xs)) (flat_map places (take i xs)) (Ok tt) → Looks stands asks got right_then (flat_map stores xs) (flat_map places xs) (Ok y)
+loop-done xs i h stores places stands asks got right right_then y so f =
+    let g = subst (λ ys. Looks stands asks got (λ (_ : Unit {0}). right ys) (flat_map stores ys) (flat_map places ys) (Ok tt)) (loop-end xs i h) f in
+    record { answers = (so g.answers.0, g.answers.1); asked = g.asked; reached = g.reached }
+
+-- an item that is read by its place, where it has no name
+pub read-at : {X : Type 0} (xs : List X) (i : ℕ) (d : X) → i < length xs → get_or xs i d ≡ get_or xs i (get_or xs i d)
+read-at [] i d h = absurd (omega (arith, h))
+read-at (x ∷ xs) zero d h = refl
+read-at (x ∷ xs) (suc i) d h = read-at xs i d (omega (arith, h))
