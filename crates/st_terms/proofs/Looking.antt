@@ -184,3 +184,7 @@ pub keeps-fail : {A C : Type 0} (follows : Type 0) (a b : Met) (e : BaseFault) �
 keeps-fail follows a b (Refused r) h = record { below = h.below; met = h.met; own = tt }
 keeps-fail follows a b (Page fault) h = record { below = h.below; met = h.met; own = h.own }
 keeps-fail follows a b Memory h = record { below = h.below; met = h.met; own = tt }
+
+-- whatever was answered
+pub keeps-as : {A C : Type 0} (follows : Type 0) (a b : Met) (x : A) (y : C) → Keeps follows a b (Ok x) → Keeps follows a b (Ok y)
+keeps-as follows a b x y h = record { below = h.below; met = h.met; own = tt }

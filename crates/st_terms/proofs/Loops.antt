@@ -35,7 +35,7 @@ item-among f [] i d h = absurd (omega (arith, h))
 item-among f (x ∷ xs) zero d h = among-left (f x) (flat_map f xs)
 item-among f (x ∷ xs) (suc i) d h = among-chain (f (get_or xs i d)) (flat_map f xs) (f x ++ flat_map f xs) (item-among f xs i d (omega (arith, h))) (among-right (f x) (flat_map f xs))
 
-front-among : {X : Type 0} (f : X → List ℕ) (xs : List X) (i : ℕ) → AreAmong (flat_map f (take i xs)) (flat_map f xs)
+pub front-among : {X : Type 0} (f : X → List ℕ) (xs : List X) (i : ℕ) → AreAmong (flat_map f (take i xs)) (flat_map f xs)
 front-among f [] zero = λ test h. h
 front-among f [] (suc i) = λ test h. h
 front-among f (x ∷ xs) zero = λ test h. refl
@@ -63,8 +63,8 @@ loop-next xs i x h k stores places stands behind first second whole got got_then
     (subst (λ ns. Looks behind whole got_then right ns (flat_map places (take i xs) ++ places x) (Ok tt)) (sym (flat-more stores xs i x h k)) named)
 
 -- an item that was not answered
-pub loop-fail : {X A : Type 0} (xs : List X) (i : ℕ) (x : X) → i < length xs → x ≡ get_or xs i x → (stores : X → List ℕ) (places : X → List Place)
-    (stands behind : Type 0) (first second whole : List Asked → Type 0) (got got_then : EntityId → ℕ → Type 0) (right_before right_item : Unit {0} → Type 0) (right : A → Type 0) (e : BaseFault)
+pub loop-fail : {X B A : Type 0} (xs : List X) (i : ℕ) (x : X) → i < length xs → x ≡ get_or xs i x → (stores : X → List ℕ) (places : X → List Place)
+    (stands behind : Type 0) (first second whole : List Asked → Type 0) (got got_then : EntityId → ℕ → Type 0) (right_before : Unit {0} → Type 0) (right_item : B → Type 0) (right : A → Type 0) (e : BaseFault)
     → ((f g : List Asked) → first f → second g → whole (f ++ g)) → ((e : EntityId) (n : ℕ) → got e n → got_then e n)
     → Looks stands first got right_before (flat_map stores (take i xs)) (flat_map places (take i xs)) (Ok tt)
     → Looks behind second got_then right_item (stores x) (places x) (Err e)

@@ -1,0 +1,3 @@
+mod Dead
+mod Fifth
+mod Starts

@@ -1,0 +1,9 @@
+use Rattle.std.proofs.Common.{◌≡◌, ◌++◌, map, take, None}
+use Rattle.std.specs.Prelude.{flat_map}
+use Rattle.std.specs.Option.{option_copied}
+use Rattle.st_query.specs.Written.{condition_terms}
+use Rattle.st_running.specs.Named.{terms_name}
+use Rattle.st_running.proofs.named.push_terms.Given as goal
+
+abbrev pub invariant-loop-term : goal.invariant-loop-term
+invariant-loop-term l = l.into.items ≡ l.initial.into.items ++ terms_name l.schema l.variables (option_copied l.subject) (take l.term-index l.terms)
