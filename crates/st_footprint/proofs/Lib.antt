@@ -1,0 +1,4 @@
+mod Numbers
+mod Rising
+mod Noted
+mod Footprints
