@@ -1,6 +1,6 @@
 -- Rules that are asked without a base, and a call behind them.
-use Rattle.std.proofs.Common.{◌≡◌, ℕ, Bool, true, false, List, [], ◌∷◌, Option, Some, None, Result, Ok, Err, refl, sym, ◌∙◌, ap, subst}
-use Rattle.std.specs.Prelude.{◌++◌, All}
+use Rattle.std.proofs.Common.{◌≡◌, inl, inr, ℕ, Bool, true, false, List, [], ◌∷◌, Option, Some, None, Result, Ok, Err, refl, sym, ◌∙◌, ap, subst}
+use Rattle.std.specs.Prelude.{◌++◌, ◌⊎◌, All}
 use Rattle.std.proofs.lemmas.List.Elements.{All-append}
 use Rattle.st_page.specs.declared.fault.PageFault.{PageFault}
 use Rattle.st_values.specs.declared.value.EntityId.{EntityId}
@@ -91,3 +91,27 @@ pub looked-fail : {A C : Type 0} (stands : Type 0) (behind : State → Type 0) (
 looked-fail stands behind asks got right_first right some stores places (Refused r) due before after among f = absurd f.answers
 looked-fail stands behind asks got right_first right some stores places (Page fault) due before after among f = record { concludes = f.answers; asked = at-more asks true some stores among (at-looking asks true some f.asked) }
 looked-fail stands behind asks got right_first right some stores places Memory due before after among f = record { concludes = tt; asked = at-more asks true some stores among (at-looking asks true some f.asked) }
+
+-- what was reached by terms, and by what comes behind
+pub looked-reaches : {C : Type 0} (got got_then : EntityId → ℕ → Type 0) (places further others : List Place) (r : Result C BaseFault)
+    → ((e : EntityId) (n : ℕ) → got e n → got_then e n) → further ≡ others
+    → All (λ p. got p.entity p.number) places → Reaches (All (λ p. got_then p.entity p.number) further) r → Reaches (All (λ p. got_then p.entity p.number) (places ++ others)) r
+looked-reaches got got_then places further others r stay e f g =
+    reaches-map (All (λ p. got_then p.entity p.number) further) (All (λ p. got_then p.entity p.number) (places ++ others)) r
+    (λ h. All-append (λ p. got_then p.entity p.number) places others (all-map (λ p. got p.entity p.number) (λ p. got_then p.entity p.number) places (λ p. stay p.entity p.number) f)
+    (subst (All (λ p. got_then p.entity p.number)) e h)) g
+
+-- calls that only look reach nothing where they are not answered
+pub fail-reaches : {A : Type 0} (C : Type 0) (stands : Type 0) (asks : List Asked → Type 0) (got : EntityId → ℕ → Type 0) (right : A → Type 0) (stores : List ℕ) (places : List Place) (P : Type 0) (e : BaseFault)
+    → Looks stands asks got right stores places (Err e) → Reaches {A = C} P (Err e)
+fail-reaches C stands asks got right stores places P (Refused r) f = absurd f.answers
+fail-reaches C stands asks got right stores places P (Page fault) f = tt
+fail-reaches C stands asks got right stores places P Memory f = tt
+
+-- a page is reached, or calls only looked, behind terms
+pub looked-first : {A : Type 0} (stands : Type 0) (first second whole : List Asked → Type 0) (got : EntityId → ℕ → Type 0) (right : A → Type 0) (some others stores : List ℕ) (places : List Place) (x : A) (P Q : Type 0)
+    → ((f g : List Asked) → first f → second g → whole (f ++ g)) → (P → Q) → AreAmong (some ++ others) stores
+    → Looks stands first got right some places (Ok x) → P ⊎ AskedAt second false others → Q ⊎ AskedAt whole false stores
+looked-first stands first second whole got right some others stores places x P Q on same among f (inl p) = inl (same p)
+looked-first stands first second whole got right some others stores places x P Q on same among f (inr g) =
+    inr (at-more whole false (some ++ others) stores among (at-both first second whole false some others on f.asked g))

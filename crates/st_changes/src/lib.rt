@@ -2,9 +2,9 @@
 #![tactic(auto)]
 
 mod entity;
-mod member;
 mod rules;
 mod single;
 mod values;
 
 pub use entity::delete;
+pub use single::set;
