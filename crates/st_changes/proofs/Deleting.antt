@@ -1,12 +1,12 @@
 -- What `delete-entity` gives, of what its parts give.
-use Rattle.std.proofs.Common.{◌≡◌, ℕ, Bool, true, false, List, [], ◌∷◌, Option, Some, None, Result, Ok, Err, refl, sym, ◌∙◌, ap, subst, true≢false}
+use Rattle.std.proofs.Common.{◌≡◌, ℕ, true, List, [], ◌∷◌, Option, Some, None, refl, sym, ◌∙◌, ap, subst, true≢false}
 use Rattle.std.specs.Prelude.{◌++◌, flat_map}
 use Rattle.st_values.specs.declared.value.EntityId.{EntityId}
 use Rattle.st_values.specs.declared.value.Kind.{Kind}
 use Rattle.st_values.specs.declared.value.Kind.TheVariants as kind
 use Rattle.st_values.specs.declared.value.Value.{Value}
 use Rattle.st_values.specs.declared.value.Value.TheVariants as value
-use Rattle.st_values.proofs.Tests.{left, right}
+use Rattle.st_values.proofs.Tests.{left}
 use Rattle.st_lattice.specs.declared.attribute.Attribute.{Attribute}
 use Rattle.st_lattice.specs.declared.called.Called.{Called}
 use Rattle.st_lattice.specs.declared.called.Called.TheVariants.{Nothing, Own, Inverse}
@@ -29,12 +29,12 @@ use Rattle.st_state.proofs.Members.{Member}
 use Rattle.st_meaning.specs.Terms.{single, feature_value, features_value, start_value, term_meaning}
 use Rattle.st_meaning.specs.Statements.{value_now, does, deletes}
 use Rattle.st_meaning.specs.Rules.{rules_1_2_7, rule_5, refusal, dead, null_target, needed_value}
-use Rattle.st_meaning.proofs.Sorts.{LiveValue, first-none, called-own, attribute-gives, inverse-gives, held-live, term-live}
+use Rattle.st_meaning.proofs.Sorts.{LiveValue, first-none, called-own, attribute-gives, inverse-gives, term-live}
 use Rattle.st_meaning.proofs.Legality.{dead-none}
 use Rattle.st_terms.specs.Looks.{AreAmong}
 use Rattle.st_terms.specs.Checked.{present, IsChecked, touched}
 use Rattle.st_terms.specs.Routes.{AdmitsTerm, term_stores}
-use Rattle.st_terms.proofs.Looking.{among-itself, among-chain, among-left, among-right, among-both}
+use Rattle.st_terms.proofs.Looking.{among-chain, among-left, among-right, among-both}
 use Rattle.st_terms.proofs.Admitted.{admitted-term}
 use Rattle.st_terms.proofs.Stores.{term-among}
 use Rattle.st_changes.specs.Effects.{delete_call, AdmitsCall, due_by, left_by, stores_of_call}

@@ -1,16 +1,16 @@
 -- A statement with an attribute, a target and a value that passed the checks.
-use Rattle.std.proofs.Common.{◌≡◌, ℕ, Bool, true, false, List, [], ◌∷◌, Option, Some, None, refl, sym, ◌∙◌, ap, subst, true≢false}
-use Rattle.std.specs.Prelude.{◌++◌, ◌&&◌, map, flat_map, not, if◌then◌else◌}
+use Rattle.std.proofs.Common.{◌≡◌, ℕ, Bool, true, false, List, [], ◌∷◌, Some, None, refl, sym, ap, subst}
+use Rattle.std.specs.Prelude.{◌++◌, ◌&&◌, ◌||◌, is_some, map, flat_map, not, if◌then◌else◌}
 use Rattle.st_values.specs.declared.value.EntityId.{EntityId}
 use Rattle.st_values.specs.declared.value.Value.{Value}
 use Rattle.st_values.specs.declared.value.Value.TheVariants as value
-use Rattle.st_values.proofs.Tests.{both}
+use Rattle.st_values.proofs.Tests.{both, either}
 use Rattle.st_lattice.specs.declared.attribute.Attribute.{Attribute}
 use Rattle.st_lattice.specs.declared.called.Called.{Called}
 use Rattle.st_lattice.specs.declared.called.Called.TheVariants.{Nothing, Own, Inverse}
 use Rattle.st_lattice.specs.declared.stores.StoreKind.TheVariants.{Extent}
 use Rattle.st_lattice.specs.Called.{called}
-use Rattle.st_lattice.specs.Outline.{Outline, attribute}
+use Rattle.st_lattice.specs.Outline.{attribute}
 use Rattle.st_lattice.specs.Lattice.{isa}
 use Rattle.st_lattice.specs.Stores.{store, extents, values_of, index_of, inverse_of, cell, aside, whole, passes}
 use Rattle.st_query.specs.declared.term.Term.{Term}
@@ -23,19 +23,19 @@ use Rattle.st_query.specs.Footprint.{feature_stores, path_stores, start_stores, 
 use Rattle.st_state.specs.State.{State, is_live}
 use Rattle.st_state.specs.Legal.{can_hold, IsLegal}
 use Rattle.st_state.specs.Refusals.{first_of}
-use Rattle.st_state.specs.Calls.{HasSingle, HasSet, CanHold, stores_by, changed_stores}
+use Rattle.st_state.specs.Calls.{HasSingle, HasSet, CanHold, stores_by, changed_stores, found_in}
 use Rattle.st_state.proofs.Set.{null}
 use Rattle.st_state.specs.declared.refusal.Refusal.TheVariants.{UnknownName, WrongType, NotASet}
 use Rattle.st_meaning.specs.Terms.{start_value}
-use Rattle.st_meaning.specs.Statements.{Present, value_now}
+use Rattle.st_meaning.specs.Statements.{value_now}
 use Rattle.st_meaning.specs.Checks.{wrong_unless, set_refused, member_refused, term_refused}
 use Rattle.st_meaning.specs.Rules.{dead, too_long}
-use Rattle.st_meaning.proofs.Sorts.{some-none, LiveValue, first-none, others-none, when-none, called-own, term-live, term-sort}
+use Rattle.st_meaning.proofs.Sorts.{some-none, LiveValue, first-none, others-none, when-none, called-own, term-sort}
 use Rattle.st_meaning.proofs.Legality.{dead-none, storable, of_sort, of_type, first-live, second-live}
 use Rattle.st_terms.specs.Looks.{AreAmong}
 use Rattle.st_terms.specs.Checked.{present}
 use Rattle.st_terms.specs.Routes.{AdmitsTerm, term_stores}
-use Rattle.st_terms.proofs.Looking.{among-itself, among-chain, among-left, among-right, among-both}
+use Rattle.st_terms.proofs.Looking.{among-chain, among-left, among-right, among-both}
 use Rattle.st_terms.proofs.Admitted.{admitted-term}
 use Rattle.st_terms.proofs.Stores.{term-among}
 use Rattle.st_changes.proofs.Places.{extent-among}
@@ -56,15 +56,17 @@ module _ (s : State) (variables : List Variable) (name : List ℕ) (t w : Term) 
   fitted-set Nothing e h = absurd (some-none (UnknownName name) h)
   fitted-set (Inverse a) e h = absurd (some-none WrongType h)
   fitted-set (Own a) e h =
-      let after = others-none (wrong_unless (not a.many)) _ h in
-      (record {
-        legal = g;
-        a = a;
-        is = e;
-        target = first-none (term_refused s.schema (known variables) (Storable (sort.Entity a.owner)) t) _ after;
-        value = first-none (term_refused s.schema (known variables) (Storable (kind_sort a.kind)) w) [] (others-none (term_refused s.schema (known variables) (Storable (sort.Entity a.owner)) t) _ after);
-        live = live;
-      }, single a.many (first-none (wrong_unless (not a.many)) _ h))
+      let after = others-none (wrong_unless (not a.many)) _ h in (
+        record {
+          legal = g;
+          a = a;
+          is = e;
+          target = first-none (term_refused s.schema (known variables) (Storable (sort.Entity a.owner)) t) _ after;
+          value = first-none (term_refused s.schema (known variables) (Storable (kind_sort a.kind)) w) [] (others-none (term_refused s.schema (known variables) (Storable (sort.Entity a.owner)) t) _ after);
+          live = live;
+        },
+        single a.many (first-none (wrong_unless (not a.many)) _ h),
+      )
     where
       single : (b : Bool) → wrong_unless (not b) ≡ None → b ≡ false
       single true k = absurd (some-none WrongType k)
@@ -75,15 +77,17 @@ module _ (s : State) (variables : List Variable) (name : List ℕ) (t w : Term) 
   fitted-member Nothing e h = absurd (some-none (UnknownName name) h)
   fitted-member (Inverse a) e h = absurd (some-none (NotASet name) h)
   fitted-member (Own a) e h =
-      let after = others-none (if a.many then None else Some (NotASet name)) _ h in
-      (record {
-        legal = g;
-        a = a;
-        is = e;
-        target = first-none (term_refused s.schema (known variables) (Storable (sort.Entity a.owner)) t) _ after;
-        value = first-none (term_refused s.schema (known variables) (Storable (kind_sort a.kind)) w) [] (others-none (term_refused s.schema (known variables) (Storable (sort.Entity a.owner)) t) _ after);
-        live = live;
-      }, when-none a.many (NotASet name) (first-none (if a.many then None else Some (NotASet name)) _ h))
+      let after = others-none (if a.many then None else Some (NotASet name)) _ h in (
+        record {
+          legal = g;
+          a = a;
+          is = e;
+          target = first-none (term_refused s.schema (known variables) (Storable (sort.Entity a.owner)) t) _ after;
+          value = first-none (term_refused s.schema (known variables) (Storable (kind_sort a.kind)) w) [] (others-none (term_refused s.schema (known variables) (Storable (sort.Entity a.owner)) t) _ after);
+          live = live;
+        },
+        when-none a.many (NotASet name) (first-none (if a.many then None else Some (NotASet name)) _ h),
+      )
 
 module _ (s : State) (variables : List Variable) (name : List ℕ) (t w : Term) (f : Fitted s variables name t w) where
   -- both terms can be read
@@ -188,3 +192,16 @@ module _ (s : State) (variables : List Variable) (name : List ℕ) (t w : Term) 
   pub effects-among : (stores : List ℕ) → AreAmong stores (whole s.schema f.a) → AreAmong stores all-touched
   effects-among stores k =
       among-chain stores effects all-touched (subst (λ c. AreAmong stores (whole_called s.schema c)) (sym f.is) k) (among-right (starts ++ paths) effects)
+
+  -- where the entities are found that have a value of it
+  pub found-among : AreAmong (stores_by (found_in s.schema) (attribute s.schema f.a.number)) (whole s.schema f.a)
+  found-among =
+      let a = f.a in
+      let all = whole s.schema a in
+      let cells = cell s.schema a in
+      let index_part = among-chain (index_of a) (cells ++ index_of a) all (among-right cells (index_of a)) (among-left (cells ++ index_of a) (inverse_of a)) in
+      let cell_part = among-chain cells (cells ++ index_of a) all (among-left cells (index_of a)) (among-left (cells ++ index_of a) (inverse_of a)) in
+      subst (λ o. AreAmong (stores_by (found_in s.schema) o) all) (sym found)
+      (either (is_some a.inverse) (λ b. AreAmong (if b then inverse_of a else if a.index || a.unique then index_of a else cells) all)
+      (λ _. among-right (cells ++ index_of a) (inverse_of a))
+      (λ _. either (a.index || a.unique) (λ b. AreAmong (if b then index_of a else cells) all) (λ _. index_part) (λ _. cell_part)))

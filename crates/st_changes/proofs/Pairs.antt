@@ -1,5 +1,5 @@
 -- Two terms that are looked at, one after the other.
-use Rattle.std.proofs.Common.{◌≡◌, ℕ, List, Result, Ok, Err}
+use Rattle.std.proofs.Common.{◌≡◌, ℕ, List, Ok, Err}
 use Rattle.std.specs.Prelude.{◌++◌}
 use Rattle.st_values.specs.declared.value.EntityId.{EntityId}
 use Rattle.st_values.specs.declared.value.Value.{Value}

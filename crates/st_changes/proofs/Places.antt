@@ -1,6 +1,6 @@
 -- Which stores are among others: the extent of a live entity's type, and what belongs to one of several.
-use Rattle.std.proofs.Common.{◌≡◌, ℕ, ◌<◌, Bool, true, false, List, [], ◌∷◌, length, refl, sym, ◌∙◌, ap, subst, arith, true≢false, zero-add}
-use Rattle.std.specs.Prelude.{◌++◌, ◌&&◌, map, flat_map, nat_lt}
+use Rattle.std.proofs.Common.{◌≡◌, ℕ, ◌<◌, Bool, true, List, [], ◌∷◌, length, refl, sym, ◌∙◌, ap, subst, arith, true≢false, zero-add}
+use Rattle.std.specs.Prelude.{map, flat_map, nat_lt}
 use Rattle.std.specs.List.{list_all, list_any, range_with_len}
 use Rattle.std.proofs.lemmas.List.Folds.{list_all-append, list_all-map, list_all_at}
 use Rattle.std.proofs.lemmas.List.FromFn.{length-range_with_len, get_or-range_with_len}
@@ -8,9 +8,7 @@ use Rattle.st_values.specs.declared.value.EntityId.{EntityId}
 use Rattle.st_values.specs.Order.{same_entity}
 use Rattle.st_values.proofs.Entities.{same_entity-is}
 use Rattle.st_values.proofs.Tests.{both, left, right, either, any-ruled, any-never}
-use Rattle.st_lattice.specs.declared.attribute.Attribute.{Attribute}
 use Rattle.st_lattice.specs.declared.stores.StoreKind.TheVariants.{Extent}
-use Rattle.st_lattice.specs.Outline.{Outline}
 use Rattle.st_lattice.specs.Lattice.{isa, below, descendants}
 use Rattle.st_lattice.specs.Stores.{store, extents}
 use Rattle.st_state.specs.State.{State, is_live}

@@ -1,18 +1,22 @@
 -- Rules that are asked without a base, and a call behind them.
 use Rattle.std.proofs.Common.{◌≡◌, inl, inr, ℕ, Bool, true, false, List, [], ◌∷◌, Option, Some, None, Result, Ok, Err, refl, sym, ◌∙◌, ap, subst}
-use Rattle.std.specs.Prelude.{◌++◌, ◌⊎◌, All}
+use Rattle.std.specs.Prelude.{◌++◌, ◌⊎◌, All, length, nat_le, if◌then◌else◌, ⊤}
 use Rattle.std.proofs.lemmas.List.Elements.{All-append}
-use Rattle.st_page.specs.declared.fault.PageFault.{PageFault}
 use Rattle.st_values.specs.declared.value.EntityId.{EntityId}
+use Rattle.st_values.specs.declared.value.Kind.{Kind}
+use Rattle.st_values.specs.declared.value.Kind.TheVariants as kind
+use Rattle.st_values.specs.declared.value.Value.{Value}
+use Rattle.st_values.specs.declared.value.Value.TheVariants as value
 use Rattle.st_state.specs.declared.refusal.Refusal.{Refusal}
 use Rattle.st_state.specs.declared.refusal.Refusal.TheVariants.{UnknownName, WrongType, NullNotAllowed, NotUnique, NoSuchEntity, StillNeeded, NotASet, TextTooLong, NumbersSpent, Aborted, NullEntity, TooManyPages, Full}
 use Rattle.st_state.specs.State.{State}
 use Rattle.st_state.specs.Refusals.{first_of}
+use Rattle.st_meaning.specs.Rules.{too_long}
 use Rattle.st_plain.specs.declared.fault.BaseFault.{BaseFault}
 use Rattle.st_plain.specs.declared.fault.BaseFault.TheVariants.{Refused, Page, Memory}
 use Rattle.st_plain.specs.Base.{Asked, Refuses, Reaches, behind}
 use Rattle.st_terms.specs.Looks.{AreAmong, AskedAt, Place, Looks, Changes}
-use Rattle.st_terms.proofs.Looking.{at-nothing, at-more, at-looking, at-both, all-map, reaches-map, looks-change, change-fail}
+use Rattle.st_terms.proofs.Looking.{at-nothing, at-more, at-looking, at-both, all-map, among-left, reaches-map, looks-change}
 use Rattle.st_changes.specs.Effects.{Tells}
 
 pub some-none : {A : Type 0} (a : A) → Some a ≡ None → ⊥
@@ -115,3 +119,38 @@ pub looked-first : {A : Type 0} (stands : Type 0) (first second whole : List Ask
 looked-first stands first second whole got right some others stores places x P Q on same among f (inl p) = inl (same p)
 looked-first stands first second whole got right some others stores places x P Q on same among f (inr g) =
     inr (at-more whole false (some ++ others) stores among (at-both first second whole false some others on f.asked g))
+
+-- rule 8 is none of those by pages
+pub long_own : (k : Kind) (v : Value) (r : Refusal) → too_long k v ≡ Some r → behind r ≡ None
+long_own kind.Int v r e = absurd (some-none r (sym e))
+long_own kind.Bool v r e = absurd (some-none r (sym e))
+long_own (kind.Entity ty) v r e = absurd (some-none r (sym e))
+long_own (kind.Text limit) value.Null r e = absurd (some-none r (sym e))
+long_own (kind.Text limit) (value.Int i) r e = absurd (some-none r (sym e))
+long_own (kind.Text limit) (value.Bool i) r e = absurd (some-none r (sym e))
+long_own (kind.Text limit) (value.Entity i) r e = absurd (some-none r (sym e))
+long_own (kind.Text limit) (value.Text text) r e = by (nat_le (length text) limit) e
+  where
+    inside : (x y : Refusal) → Some x ≡ Some y → x ≡ y
+    inside x y h = cc
+
+    by : (b : Bool) → (if b then None else Some (TextTooLong (length text) limit)) ≡ Some r → behind r ≡ None
+    by true h = absurd (some-none r (sym h))
+    by false h = subst (λ x. behind x ≡ None) (inside (TextTooLong (length text) limit) r h) refl
+
+-- ---- a rule that is asked of a base, and a call behind it
+
+-- where the rule was not answered, nothing is called
+pub change-stop : {C : Type 0} (due : Option Refusal) (stands : State → Type 0) (asks : List Asked → Type 0) (before after other_after : State) (right : C → Type 0) (some others : List ℕ) (e : BaseFault)
+    → Changes {A = C} due stands asks before after right some (Err e) → Changes {A = C} due stands asks before other_after right (some ++ others) (Err e)
+change-stop due stands asks before after other_after right some others (Refused r) g = record { concludes = g.concludes; asked = at-more asks true some (some ++ others) (among-left some others) g.asked }
+change-stop due stands asks before after other_after right some others (Page fault) g = record { concludes = g.concludes; asked = at-more asks true some (some ++ others) (among-left some others) g.asked }
+change-stop due stands asks before after other_after right some others Memory g = record { concludes = tt; asked = at-more asks true some (some ++ others) (among-left some others) g.asked }
+
+-- rules that tell, behind terms or values that were looked at
+pub looked-told : {A : Type 0} (stands : Type 0) (behind : State → Type 0) (first : List Asked → Type 0) (got : EntityId → ℕ → Type 0) (right : A → Type 0) (stores : List ℕ) (places : List Place) (x : A) (due : Option Refusal) (before : State) (r : Result (Unit {0}) BaseFault)
+    → Looks stands first got right stores places (Ok x) → (stands → behind before) → Tells due r → Changes due behind first before before (λ _. ⊤) stores r
+looked-told stands behind first got right stores places x due before (Ok y) f h t = record { concludes = (t, tt, h f.answers.1); asked = at-looking first true stores f.asked }
+looked-told stands behind first got right stores places x due before (Err (Refused r)) f h t = record { concludes = refuses-own due (behind before) r t.0 t.1 (h f.answers.1); asked = at-looking first true stores f.asked }
+looked-told stands behind first got right stores places x due before (Err (Page fault)) f h t = absurd t
+looked-told stands behind first got right stores places x due before (Err Memory) f h t = record { concludes = tt; asked = at-looking first true stores f.asked }

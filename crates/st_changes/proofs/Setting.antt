@@ -1,27 +1,26 @@
 -- What `set` gives, of what its parts give.
-use Rattle.std.proofs.Common.{◌≡◌, ℕ, Bool, true, false, List, [], ◌∷◌, Option, Some, None, refl, sym, ◌∙◌, ap, subst, true≢false}
-use Rattle.std.specs.Prelude.{◌++◌, ◌&&◌, map}
+use Rattle.std.proofs.Common.{◌≡◌, ℕ, false, List, [], ◌∷◌, Option, Some, None, refl, sym, ◌∙◌, ap, subst, true≢false}
+use Rattle.std.specs.Prelude.{◌++◌, map}
 use Rattle.st_values.specs.declared.value.EntityId.{EntityId}
 use Rattle.st_values.specs.declared.value.Value.{Value}
 use Rattle.st_values.specs.declared.value.Value.TheVariants as value
 use Rattle.st_lattice.specs.declared.attribute.Attribute.{Attribute}
 use Rattle.st_lattice.specs.declared.called.Called.{Called}
-use Rattle.st_lattice.specs.declared.called.Called.TheVariants.{Nothing, Own, Inverse}
+use Rattle.st_lattice.specs.declared.called.Called.TheVariants.{Own}
 use Rattle.st_lattice.specs.Called.{called}
 use Rattle.st_lattice.specs.Outline.{Outline, attribute}
-use Rattle.st_lattice.specs.Stores.{whole, cell}
+use Rattle.st_lattice.specs.Stores.{cell}
 use Rattle.st_query.specs.declared.statement.Statement.TheVariants.{Set as SetTo}
 use Rattle.st_query.specs.declared.term.Term.{Term}
 use Rattle.st_query.specs.declared.term.Variable.{Variable}
 use Rattle.st_state.specs.declared.refusal.Refusal.{Refusal}
-use Rattle.st_state.specs.State.{State, is_live}
+use Rattle.st_state.specs.State.{State}
 use Rattle.st_state.specs.Refusals.{first_of}
 use Rattle.st_state.specs.Bases.{not_unique}
-use Rattle.st_state.specs.Calls.{Set, Admits, CanBe, shared_at, stores_by, changed_stores}
-use Rattle.st_state.proofs.Set.{null}
+use Rattle.st_state.specs.Calls.{CanBe, shared_at, stores_by, changed_stores}
 use Rattle.st_meaning.specs.Statements.{value_now, does, sets}
 use Rattle.st_meaning.specs.Rules.{rules_1_2_7, rule_5, refusal, set_fillings, too_long, missing, shared, entity_in, null_target}
-use Rattle.st_meaning.proofs.Sorts.{first-none, others-none}
+use Rattle.st_meaning.proofs.Sorts.{first-none}
 use Rattle.st_terms.specs.Looks.{AreAmong}
 use Rattle.st_terms.specs.Checked.{present, IsChecked, touched, set_place}
 use Rattle.st_terms.specs.Routes.{term_stores}
@@ -71,7 +70,7 @@ module _ (s : State) (variables : List Variable) (name : List ℕ) (t w : Term) 
     set-refused =
         let p = present s variables in
         let rest = λ (d : Called Attribute) (u v : Value). first_of (null_target u ∷ first_of (map (λ f. too_long f.attribute.kind f.value) (set_fillings v d))
-            ∷ first_of (map (missing s.schema) (set_fillings v d)) ∷ first_of (map (shared s (entity_in u)) (set_fillings v d)) ∷ None ∷ None ∷ []) in
+        ∷ first_of (map (missing s.schema) (set_fillings v d)) ∷ first_of (map (shared s (entity_in u)) (set_fillings v d)) ∷ None ∷ None ∷ []) in
         ap (λ o. first_of (first_of (set_rules o c tv wv) ∷ due_by s (set_call c tv wv) ∷ [])) (sym same)
         ∙ subst (λ d. first_of (first_of (set_rules s.schema d tv wv) ∷ due_by s (set_call d tv wv) ∷ []) ≡ rest d tv wv) (sym owned) (by tv target)
         ∙ ap (λ d. rest d tv wv) called-same

@@ -2,9 +2,11 @@
 #![tactic(auto)]
 
 mod entity;
+mod member;
 mod rules;
 mod single;
 mod values;
 
 pub use entity::delete;
+pub use member::{add, take};
 pub use single::set;

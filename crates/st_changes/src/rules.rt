@@ -3,13 +3,14 @@ ghost use Rattle.std.specs.Prelude.{◌≡◌, ◌∷◌, [], IfOk};
 ghost use Rattle.st_lattice.specs.Outline.{type_name, attribute_name};
 ghost use Rattle.st_lattice.specs.Called.{called_copied};
 ghost use Rattle.st_state.specs.Refusals.{first_of};
+ghost use Rattle.st_state.specs.Bases.{shared_with};
 ghost use Rattle.st_meaning.specs.Rules.{null_target, too_long, missing};
 ghost use Rattle.st_changes.specs.Effects.{Tells, filling_rules, set_rules, add_rules, take_rules};
 
 use st_lattice::{Attribute, Called, Schema};
 use st_plain::{BaseFault, Refusal};
 use st_text::Letters;
-use st_values::{Kind, Value};
+use st_values::{EntityId, Kind, Value};
 use std::alloc::{AllocError, Global};
 
 fn name_of(schema: &Schema, ty: u16) -> &str
@@ -44,22 +45,33 @@ pub(crate) fn not_null(target: &Value) -> Result<(), BaseFault>
     }
 }
 
-/// Rule 8: a text that is to be stored must not be longer than the attribute's kind allows.
-fn short_enough(kind: Kind, value: &Value) -> Result<(), BaseFault>
-    ensures { Tells (too_long kind value.now) result }
+/// Rule 8 where a text is longer than an attribute's kind allows.
+pub(crate) fn too_long(kind: Kind, value: &Value) -> Option<Refusal>
+    ensures { result ≡ too_long kind value.now }
 {
     match (kind, value) {
         (Kind::Text(limit), Value::Text(text)) => {
             if text.len() <= limit as usize {
-                Ok(())
+                None
             } else {
-                Err(BaseFault::Refused(Refusal::TextTooLong {
+                Some(Refusal::TextTooLong {
                     length: text.len() as u64,
                     limit: limit as u32,
-                }))
+                })
             }
         }
-        _ => Ok(()),
+        _ => None,
+    }
+}
+
+/// Rule 8: a text that is to be stored must not be longer than the attribute's kind allows.
+#[tactic(auto, using(crate::proofs::Running::long_own))]
+fn short_enough(kind: Kind, value: &Value) -> Result<(), BaseFault>
+    ensures { Tells (too_long kind value.now) result }
+{
+    match too_long(kind, value) {
+        None => Ok(()),
+        Some(refusal) => Err(BaseFault::Refused(refusal)),
     }
 }
 
@@ -78,6 +90,24 @@ fn given(
             attribute: attribute_name(alloc, schema, attribute)?,
         })),
         _ => Ok(()),
+    }
+}
+
+/// Rule 4 of a value that goes into a set or out of it: no entity has it.
+pub(crate) fn not_held(
+    alloc: Global,
+    schema: &Schema,
+    attribute: &Attribute,
+    holder: Option<EntityId>,
+) -> Result<(), BaseFault>
+    ensures { Tells (shared_with schema.now attribute.now holder) result }
+{
+    match holder {
+        Some(holder) => {
+            let attribute = attribute_name(alloc, schema, attribute)?;
+            Err(BaseFault::Refused(Refusal::NotUnique { attribute, holder }))
+        }
+        None => Ok(()),
     }
 }
 

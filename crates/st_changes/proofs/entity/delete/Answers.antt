@@ -1,4 +1,3 @@
-use Rattle.std.proofs.Common.{◌∙◌, sym}
 use Rattle.std.proofs.lemmas.Result.{err_from_is_err_and}
 use Rattle.st_changes.proofs.Running.{looked-fail, looked-then, told-fail, told-then}
 use Rattle.st_changes.proofs.Deleting.{admits, can-delete, delete-refused, delete-leaves, delete-term, delete-among}
