@@ -1,0 +1,10 @@
+pub mod Running
+pub mod Places
+pub mod Pairs
+pub mod Fitted
+pub mod Holders
+pub mod Strangers
+pub mod Deleting
+pub mod Setting
+pub mod Adding
+pub mod Taking
