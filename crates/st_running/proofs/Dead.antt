@@ -10,18 +10,9 @@ use Rattle.st_state.specs.State.{State, is_live}
 use Rattle.st_plain.specs.declared.fault.BaseFault.{BaseFault}
 use Rattle.st_plain.specs.Base.{Asked}
 use Rattle.st_terms.specs.Looks.{Place, Looks}
-use Rattle.st_terms.proofs.Looking.{at-more, reaches-map, looks-more}
+use Rattle.st_terms.proofs.Looking.{at-more, no-places}
 use Rattle.st_terms.proofs.Loops.{taken, front-among, loop-next, loop-fail}
 use Rattle.st_running.specs.Named.{extents_of}
-
--- without the places
-pub no-places : {A : Type 0} (stands : Type 0) (asks : List Asked → Type 0) (got : EntityId → ℕ → Type 0) (right : A → Type 0) (stores : List ℕ) (places : List Place) (r : Result A BaseFault)
-    → Looks stands asks got right stores places r → Looks stands asks got right stores [] r
-no-places stands asks got right stores places r f = record {
-  answers = f.answers;
-  asked = f.asked;
-  reached = reaches-map (All (λ p. got p.entity p.number) places) (All (λ p. got p.entity p.number) []) r (λ _. All-nil (λ p. got p.entity p.number)) f.reached;
-}
 
 -- an answer that is used for what it says alone
 as-said : {A : Type 0} (stands : Type 0) (asks : List Asked → Type 0) (got : EntityId → ℕ → Type 0) (right : A → Type 0) (stores : List ℕ) (places : List Place) (x : A)

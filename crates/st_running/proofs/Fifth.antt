@@ -1,5 +1,5 @@
 -- Rule 5 and the extents of literals and variables, by the entities that a statement names.
-use Rattle.std.proofs.Common.{◌≡◌, ℕ, Bool, true, false, List, [], ◌∷◌, Option, Some, None, Ok, refl, sym, ◌∙◌, ap, subst}
+use Rattle.std.proofs.Common.{◌≡◌, ℕ, Bool, true, false, List, [], ◌∷◌, Option, Some, None, Ok, Err, refl, sym, ◌∙◌, ap, subst, append-nil}
 use Rattle.std.specs.Prelude.{◌++◌, cond, not, map, filter, find, flat_map, if◌then◌else◌}
 use Rattle.std.proofs.lemmas.Grind.{flat_map-append}
 use Rattle.st_values.specs.declared.value.EntityId.{EntityId}
@@ -22,7 +22,9 @@ use Rattle.st_state.specs.Refusals.{first_of}
 use Rattle.st_state.specs.State.{State, is_live}
 use Rattle.st_meaning.specs.Terms.{start_value}
 use Rattle.st_meaning.specs.Rules.{dead, entity_in, rule_5}
+use Rattle.st_plain.specs.declared.fault.BaseFault.{BaseFault}
 use Rattle.st_plain.specs.Base.{Asked}
+use Rattle.st_terms.proofs.Looking.{looks-fail}
 use Rattle.st_terms.specs.Looks.{Looks}
 use Rattle.st_terms.specs.Checked.{present}
 use Rattle.st_running.specs.Named.{start_entity, listed, is_hidden, term_names, terms_name, statement_names, extents_of, dead_refusal}
@@ -135,3 +137,13 @@ fifth-said s schema variables st names found refused same is r stands asks got f
     let g = subst (λ ns. Looks stands asks got (λ d. d ≡ find (gone s) ns) (extents_of ns) [] (Ok found)) e f in
     let h = subst (λ xs. Looks stands asks got (λ d. d ≡ find (gone s) (statement_names s.schema variables st)) xs [] (Ok found)) (statement-extents s.schema variables st) g in
     record { answers = (r ∙ ap dead_refusal h.answers.0 ∙ sym (fifth s variables st), h.answers.1); asked = h.asked; reached = h.reached }
+
+pub fifth-failed : (s : State) (schema : Outline) (variables : List Variable) (st : Statement) (names : List EntityId) (e : BaseFault) → s.schema ≡ schema → names ≡ statement_names schema variables st
+    → (stands : Type 0) (asks : List Asked → Type 0) (got : EntityId → ℕ → Type 0)
+    → Looks stands asks got (λ d. d ≡ find (gone s) names) (extents_of names) [] (Err e) → Looks stands asks got (λ r. r ≡ rule_5 (present s variables) st) (flat_map (start_stores s.schema variables) (starts_of st)) [] (Err e)
+fifth-failed s schema variables st names e same is stands asks got f =
+    let k : extents_of names ≡ flat_map (start_stores s.schema variables) (starts_of st) =
+    ap extents_of (is ∙ ap (λ o. statement_names o variables st) (sym same)) ∙ statement-extents s.schema variables st in
+    subst (λ xs. Looks stands asks got (λ r. r ≡ rule_5 (present s variables) st) xs [] (Err e)) (append-nil (flat_map (start_stores s.schema variables) (starts_of st)))
+    (looks-fail stands stands asks got (λ d. d ≡ find (gone s) names) (λ r. r ≡ rule_5 (present s variables) st) (flat_map (start_stores s.schema variables) (starts_of st)) [] [] [] e
+    (subst (λ xs. Looks stands asks got (λ d. d ≡ find (gone s) names) xs [] (Err e)) k f))

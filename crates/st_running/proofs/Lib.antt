@@ -1,3 +1,4 @@
 mod Dead
 mod Fifth
 mod Starts
+mod Stepping

@@ -1,5 +1,9 @@
 //! Running transactions, over any base that selects entities.
 #![tactic(auto)]
 
+pub mod arms;
 pub mod live;
 mod named;
+mod outcome;
+
+pub use outcome::Outcome;

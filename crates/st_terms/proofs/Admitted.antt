@@ -38,7 +38,7 @@ use Rattle.st_terms.proofs.Routes.{called-inverse, features-walked, start-is}
 
 -- ---- one reading
 
-one : {X : Type 0} (P : X → Type 0) (x : X) → P x → All P (x ∷ [])
+pub one : {X : Type 0} (P : X → Type 0) (x : X) → P x → All P (x ∷ [])
 one P x p = search (rules, p)
 
 module _ (s : State) where

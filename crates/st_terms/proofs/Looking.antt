@@ -3,7 +3,7 @@ use Rattle.std.proofs.Common.{◌≡◌, ℕ, Bool, true, false, List, [], Optio
 use Rattle.std.specs.Prelude.{◌++◌, ◌||◌, All, IsTrue}
 use Rattle.std.specs.List.{list_all}
 use Rattle.std.proofs.lemmas.Grind.{flat_map-append}
-use Rattle.std.proofs.lemmas.List.Elements.{All-append}
+use Rattle.std.proofs.lemmas.List.Elements.{All-append, All-nil}
 use Rattle.std.proofs.lemmas.List.Folds.{list_any-append, list_all-append}
 use Rattle.st_page.specs.declared.fault.PageFault.{PageFault}
 use Rattle.st_values.specs.declared.value.EntityId.{EntityId}
@@ -111,6 +111,15 @@ looks-fail stands behind asks got right right_then some others places further Me
 pub looks-more : {A : Type 0} (stands : Type 0) (asks : List Asked → Type 0) (got : EntityId → ℕ → Type 0) (right : A → Type 0) (some others : List ℕ) (places : List Place) (r : Result A BaseFault)
     → AreAmong some others → Looks stands asks got right some places r → Looks stands asks got right others places r
 looks-more stands asks got right some others places r among f = record { answers = f.answers; asked = at-more asks false some others among f.asked; reached = f.reached }
+
+-- without the places
+pub no-places : {A : Type 0} (stands : Type 0) (asks : List Asked → Type 0) (got : EntityId → ℕ → Type 0) (right : A → Type 0) (stores : List ℕ) (places : List Place) (r : Result A BaseFault)
+    → Looks stands asks got right stores places r → Looks stands asks got right stores [] r
+no-places stands asks got right stores places r f = record {
+  answers = f.answers;
+  asked = f.asked;
+  reached = reaches-map (All (λ p. got p.entity p.number) places) (All (λ p. got p.entity p.number) []) r (λ _. All-nil (λ p. got p.entity p.number)) f.reached;
+}
 
 -- calls that may change something, behind calls that only look
 pub looks-change : {A C : Type 0} (stands : Type 0) (behind : State → Type 0) (first second whole : List Asked → Type 0) (got : EntityId → ℕ → Type 0) (right_first : A → Type 0) (right_then : C → Type 0)
