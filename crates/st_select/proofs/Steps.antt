@@ -1,5 +1,5 @@
 -- Calls that only look, one after another at the same stores, as a loop makes them.
-use Rattle.std.proofs.Common.{◌≡◌, ℕ, ◌<◌, ◌+◌, Bool, true, false, List, [], ◌∷◌, Result, Ok, Err, refl, sym, ◌∙◌, ap, subst, length, get_or, take, map, arith, zero, suc, true≢false}
+use Rattle.std.proofs.Common.{◌≡◌, ℕ, ◌<◌, ◌+◌, Bool, true, false, List, [], ◌∷◌, Result, Ok, Err, refl, sym, ◌∙◌, ap, subst, length, get_or, take, map, arith, zero, suc}
 use Rattle.std.specs.Prelude.{◌++◌, All, flat_map, filter, if◌then◌else◌}
 use Rattle.std.specs.List.{list_all}
 use Rattle.std.proofs.lemmas.List.{take_more, map-append, get_or_default}
@@ -12,7 +12,8 @@ use Rattle.st_plain.specs.declared.fault.BaseFault.{BaseFault}
 use Rattle.st_plain.specs.declared.fault.BaseFault.TheVariants.{Refused, Page, Memory}
 use Rattle.st_plain.specs.Base.{Met, Asked}
 use Rattle.st_terms.specs.Looks.{AreAmong, AskedAt, Looks, Keeps}
-use Rattle.st_terms.proofs.Looking.{among-itself, among-chain, among-left, among-right, among-both, at-both, at-more, keeps-then, keeps-fail}
+use Rattle.st_terms.proofs.Loops.{item-holds}
+use Rattle.st_terms.proofs.Looking.{among-itself, among-chain, among-left, among-right, among-both, at-both, at-more, keeps-then}
 
 -- ---- what calls give
 
@@ -55,11 +56,6 @@ module _ (stands behind : Type 0) (first second whole : List Asked → Type 0) (
   looks-spent right right_then right_all x y r told f g =
       at-error (Looks behind whole got_then right_all stores []) r Memory told (record { answers = tt; asked = asked f.asked g.asked; reached = tt })
 
--- what was answered, said otherwise
-pub looks-as : {A C : Type 0} (stands : Type 0) (asks : List Asked → Type 0) (got : EntityId → ℕ → Type 0) (right : A → Type 0) (right_as : C → Type 0) (stores : List ℕ) (x : A) (y : C)
-    → (right x → right_as y) → Looks stands asks got right stores [] (Ok x) → Looks stands asks got right_as stores [] (Ok y)
-looks-as stands asks got right right_as stores x y h f = record { answers = (h f.answers.0, f.answers.1); asked = f.asked; reached = f.reached }
-
 -- ---- what calls keep
 
 pub keeps-step : {A C D : Type 0} (first second whole : Type 0) (a b c : Met) (x : A) (y : C) (z : D)
@@ -67,11 +63,6 @@ pub keeps-step : {A C D : Type 0} (first second whole : Type 0) (a b c : Met) (x
 keeps-step first second whole a b c x y z on f g =
     let both = keeps-then first second whole a b c x (Ok y) on f g in
     record { below = both.below; met = record { never_falls = both.met.never_falls; is_last = both.met.is_last }; own = tt }
-
-pub keeps-stop : {A C D : Type 0} (first second whole : Type 0) (a b c : Met) (x : A) (e : BaseFault) (r : Result D BaseFault) → (y : BaseFault) × (r ≡ Err y) × (y ≡ e)
-    → (first → second → whole) → Keeps first a b (Ok x) → Keeps {A = C} second b c (Err e) → Keeps whole a c r
-keeps-stop {C = C} {D = D} first second whole a b c x e r told on f g =
-    at-error (Keeps whole a c) r e told (keeps-fail {A = C} {C = D} whole a c e (keeps-then first second whole a b c x (Err e) on f g))
 
 pub keeps-spent : {A C D : Type 0} (first second whole : Type 0) (a b c : Met) (x : A) (y : C) (r : Result D BaseFault) → (z : BaseFault) × (r ≡ Err z) × (z ≡ Memory)
     → (first → second → whole) → Keeps first a b (Ok x) → Keeps second b c (Ok y) → Keeps whole a c r
@@ -91,12 +82,9 @@ among-at f (x ∷ xs) (suc i) d h = among-chain (f (get_or xs i d)) (flat_map f 
 pub among-item : {X : Type 0} (f : X → List ℕ) (xs : List X) (i : ℕ) (x : X) → i < length xs → x ≡ get_or xs i x → AreAmong (f x) (flat_map f xs)
 among-item f xs i x h e = subst (λ y. AreAmong (f y) (flat_map f xs)) (sym e) (among-at f xs i x h)
 
-pub all-item : {X : Type 0} (P : X → Type 0) (xs : List X) (i : ℕ) (x : X) → i < length xs → x ≡ get_or xs i x → All P xs → P x
-all-item P xs i x h e all = subst P (sym e) (all i x h)
-
 -- what is of a schema is of the same schema behind some calls
 pub all-item-of : {X : Type 0} (P : Outline → X → Type 0) (old new : Outline) (xs : List X) (i : ℕ) (x : X) → new ≡ old → i < length xs → x ≡ get_or xs i x → All (P old) xs → P new x
-all-item-of P old new xs i x same h e all = subst (λ o. P o x) (sym same) (all-item (P old) xs i x h e all)
+all-item-of P old new xs i x same h e all = subst (λ o. P o x) (sym same) (item-holds (P old) xs i x h e all)
 
 pub all-of : {X : Type 0} (P : Outline → X → Type 0) (old new : Outline) (xs : List X) → new ≡ old → All (P old) xs → All (P new) xs
 all-of P old new xs same all = subst (λ o. All (P o) xs) (sym same) all

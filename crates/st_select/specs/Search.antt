@@ -1,5 +1,5 @@
 -- Queries that were looked up: what is asked of each entity, and what it takes to ask it.
-use Rattle.std.specs.Prelude.{ℕ, ◌<◌, Bool, not, List, [], ◌∷◌, ◌++◌, map, flat_map, filter, Option, Some, None, All}
+use Rattle.std.specs.Prelude.{ℕ, ◌<◌, Bool, not, List, [], ◌++◌, map, flat_map, filter, Option, Some, None, All}
 use Rattle.std.specs.List.{list_all}
 use Rattle.std.specs.Option.{ForSome}
 use Rattle.std.specs.Prelude.{length}
@@ -99,6 +99,10 @@ all_hold state tests e = list_all (test_holds state e) tests
 abbrev pub matching : State → List Test → List EntityId → List EntityId
 matching state tests entities = filter (all_hold state tests) entities
 
+-- the entities that a search finds
+abbrev pub search_matches : State → Search → List EntityId
+search_matches state search = matching state search.tests (entities_in state search.ty)
+
 -- the value of a key of an entity
 abbrev pub key_value : State → EntityId → OrderKey → Value
 key_value state e key = single (route_meaning state key.route (Some e))
@@ -131,6 +135,9 @@ abbrev pub type_stores : Outline → Option ℕ → List ℕ
 type_stores schema None = []
 type_stores schema (Some ty) = extents schema ty
 
--- the stores that a search may look at
+-- the stores that may be looked at for the entities that a search finds, and those for their order too
+abbrev pub matches_stores : Outline → Search → List ℕ
+matches_stores schema search = type_stores schema search.ty ++ tests_stores schema search.tests
+
 abbrev pub search_stores : Outline → Search → List ℕ
-search_stores schema search = (type_stores schema search.ty ++ tests_stores schema search.tests) ++ keys_stores schema search.keys
+search_stores schema search = matches_stores schema search ++ keys_stores schema search.keys

@@ -2,8 +2,10 @@
 #![tactic(auto)]
 
 mod compare;
+mod engine;
 mod matching;
 mod ranking;
 mod search;
 
+pub use engine::{Engine, filtered};
 pub use search::{Ask, OrderKey, Search, Test, prepare};

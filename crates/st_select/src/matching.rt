@@ -6,8 +6,8 @@ ghost use Rattle.st_terms.specs.Looks.{Looks, Keeps};
 ghost use Rattle.st_terms.specs.Routes.{route_meaning, route_stores, AdmitsRoute};
 ghost use Rattle.st_select.specs.Search.{IsRouteOf, IsTestOf, IsTypeOf, AdmitsTest, AdmitsTests, test_stores, tests_stores, type_stores, test_holds, all_hold, matching};
 
-use crate::compare::answer;
 use crate::Test;
+use crate::compare::answer;
 use sqlite_items::Items;
 use st_meaning::Meaning;
 use st_plain::{Base, BaseFault};
@@ -70,6 +70,7 @@ fn all_hold<B: Base>(
     Ok(true)
 }
 
+/// One more entity, if it is kept.
 fn push_if(found: &mut Entities, entity: EntityId, kept: bool) -> Result<(), AllocError>
     ensures { OnOk result (found.new ≡ found.old ++ (if kept then entity ∷ [] else [])) }
 {

@@ -1,7 +1,7 @@
-ghost use Rattle.std.specs.Prelude.{◌≡◌, [], map, IfOk, All};
+//! A query that is looked up once, for all entities that it looks at.
+ghost use Rattle.std.specs.Prelude.{◌≡◌, [], map, IfOk, All, Some};
 ghost use Rattle.st_terms.specs.Routes.{route_of as route_of_way};
 ghost use Rattle.st_query.specs.Ways.{way};
-ghost use Rattle.std.specs.Prelude.{Some};
 ghost use Rattle.st_select.specs.Search.{test_of, order_key_of, search_of, IsRouteOf, IsTestOf, IsOrderKeyOf, IsSearchOf, null_route};
 
 use sqlite_items::Items;
@@ -203,20 +203,8 @@ pub fn prepare(
     ensures there { IfOk result (λ search. IsSearchOf schema.now search) }
 {
     let var = query.var.as_slice();
-    let tests = tests_of(
-        alloc,
-        schema,
-        variables,
-        var,
-        query.conditions.as_slice(),
-    )?;
-    let keys = order_keys_of(
-        alloc,
-        schema,
-        variables,
-        var,
-        query.keys.as_slice(),
-    )?;
+    let tests = tests_of(alloc, schema, variables, var, query.conditions.as_slice())?;
+    let keys = order_keys_of(alloc, schema, variables, var, query.keys.as_slice())?;
     Ok(Search {
         ty: schema.type_named(query.ty.as_slice()),
         tests,

@@ -1,4 +1,4 @@
-use Rattle.std.proofs.Common.{ap, sym, ◌∙◌}
+use Rattle.std.proofs.Common.{ap, ◌∙◌}
 use Rattle.std.proofs.lemmas.Result.{err_from_is_err_and}
 use Rattle.st_terms.proofs.Looking.{among-left, among-right, looks-more}
 use Rattle.st_select.specs.Search.{answer, test_stores}

@@ -1,5 +1,5 @@
-use Rattle.std.proofs.Common.{◌≡◌, take, map}
-use Rattle.std.specs.Prelude.{Ok, [], All, true}
+use Rattle.std.proofs.Common.{◌≡◌, take}
+use Rattle.std.specs.Prelude.{Ok, [], All}
 use Rattle.st_state.specs.State.{State}
 use Rattle.st_terms.specs.Looks.{Looks, Keeps}
 use Rattle.st_select.specs.Search.{AdmitsTests, matching, tests_stores}
