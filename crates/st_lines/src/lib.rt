@@ -2,6 +2,8 @@
 #![tactic(auto)]
 
 mod lines;
+mod query;
 mod tails;
 
+pub use query::for_each;
 pub use tails::print;
