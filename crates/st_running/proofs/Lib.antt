@@ -1,3 +1,4 @@
+mod Checks
 mod Dead
 mod Fifth
 mod Starts

@@ -1,20 +1,24 @@
 -- The entities that are named by the literals and variables of a statement.
-use Rattle.std.specs.Prelude.{ℕ, Bool, false, if◌then◌else◌, List, [], ◌∷◌, flat_map, Option, Some, None}
+use Rattle.std.specs.Prelude.{ℕ, Bool, true, false, if◌then◌else◌, List, [], ◌∷◌, flat_map, Option, Some, None}
 use Rattle.st_values.specs.declared.value.EntityId.{EntityId}
 use Rattle.st_lattice.specs.declared.stores.StoreKind.TheVariants.{Extent}
 use Rattle.st_lattice.specs.Outline.{Outline}
 use Rattle.st_lattice.specs.Stores.{store}
 use Rattle.st_query.specs.declared.query.Query.{Query}
 use Rattle.st_query.specs.declared.statement.Statement.{Statement}
-use Rattle.st_query.specs.declared.statement.Statement.TheVariants.{ForEach}
+use Rattle.st_query.specs.declared.statement.Statement.TheVariants.{ForEach, Abort}
 use Rattle.st_query.specs.declared.term.Term.{Term}
 use Rattle.st_query.specs.declared.term.Variable.{Variable}
 use Rattle.st_query.specs.Terms.{literal_value, variable_value}
 use Rattle.st_query.specs.Ways.{Start, Written, Named, way}
 use Rattle.st_query.specs.Written.{terms_of, query_terms, begins_with}
 use Rattle.st_state.specs.declared.refusal.Refusal.{Refusal}
-use Rattle.st_state.specs.declared.refusal.Refusal.TheVariants.{NoSuchEntity}
-use Rattle.st_meaning.specs.Rules.{entity_in}
+use Rattle.st_state.specs.declared.refusal.Refusal.TheVariants.{NoSuchEntity, Aborted}
+use Rattle.st_state.specs.Refusals.{first_of}
+use Rattle.st_query.specs.Kinds.{known}
+use Rattle.st_meaning.specs.Statements.{Present}
+use Rattle.st_meaning.specs.Checks.{text_refused}
+use Rattle.st_meaning.specs.Rules.{entity_in, rule_10, rules_1_2_7, rule_5}
 
 -- the entity that a term begins with, if it begins with one
 abbrev pub start_entity : Outline → List Variable → Start → Option EntityId
@@ -51,3 +55,17 @@ extents_of entities = flat_map (λ e. store Extent e.ty ∷ []) entities
 abbrev pub dead_refusal : Option EntityId → Option Refusal
 dead_refusal None = None
 dead_refusal (Some e) = Some (NoSuchEntity e)
+
+-- whether a statement gives its transaction up
+abbrev pub is_abort : Statement → Bool
+is_abort Abort = true
+is_abort _ = false
+
+-- rule 10, and then rules 1, 2 and 7
+abbrev pub text_refusal : Outline → List Variable → Statement → Option Refusal
+text_refusal schema variables statement =
+    first_of ((if is_abort statement then Some Aborted else None) ∷ text_refused schema (known variables) statement ∷ [])
+
+-- the rules that come before anything is evaluated
+abbrev pub checks : Present → Statement → Option Refusal
+checks p statement = first_of (rule_10 p statement ∷ rules_1_2_7 p statement ∷ rule_5 p statement ∷ [])

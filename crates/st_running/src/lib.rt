@@ -2,6 +2,7 @@
 #![tactic(auto)]
 
 pub mod arms;
+pub mod check;
 pub mod live;
 mod named;
 mod outcome;
