@@ -146,7 +146,8 @@ fn add_given<B: Base>(
 }
 
 /// `add-to-set`, once it was checked: puts a value into the set of an attribute of an entity. Nothing is changed where the
-/// target is null (rule 11), a text is too long (rule 8), or the value is null (rule 3).
+/// target is null (rule 11), a text is too long (rule 8), the value is null (rule 3), or an entity has it already where no two
+/// may (rule 4).
 #[tactic(auto, using(crate::proofs::Holders::called_there))]
 pub fn add<B: Base>(
     base: &mut B,
@@ -273,7 +274,8 @@ fn take_given<B: Base>(
 }
 
 /// `delete-from-set`, once it was checked: takes a value out of the set of an attribute of an entity. Nothing is changed
-/// where the target is null (rule 11) or the value is (rule 3). A text that is too long is in no set, and is no error.
+/// where the target is null (rule 11) or the value is (rule 3), nor where an entity has the value and no two may (rule 4). A
+/// text that is too long is in no set, and is no error.
 #[tactic(auto, using(crate::proofs::Holders::called_there))]
 pub fn take<B: Base>(
     base: &mut B,
