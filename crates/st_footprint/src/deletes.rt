@@ -64,7 +64,6 @@ fn feature_types(
 }
 
 /// The types that the entity may have for which a term stands.
-#[tactic(auto, using(crate::proofs::Noted::steps))]
 fn possible_types(
     alloc: Global,
     schema: &Schema,
@@ -93,11 +92,10 @@ fn may_refer(
     ensures { IfOk result (λ answer. answer ≡ may_refer schema.now ty attribute.now) }
 {
     let types = kind_types(alloc, schema, attribute.kind)?;
-    Ok(types.as_slice().iter().any(|other| *other == ty))
+    Ok(types.as_slice().contains(&ty))
 }
 
 /// Notes all of the attributes that may refer to an entity of a type.
-#[tactic(auto, using(crate::proofs::Noted::steps))]
 fn note_referring(
     alloc: Global,
     schema: &Schema,
@@ -115,7 +113,6 @@ fn note_referring(
 }
 
 /// Notes all that changes with an entity of a type that is deleted.
-#[tactic(auto, using(crate::proofs::Noted::steps))]
 fn note_deleted(
     alloc: Global,
     schema: &Schema,
@@ -130,7 +127,6 @@ fn note_deleted(
 }
 
 /// Notes all that changes with the entity for which a term stands, where that is deleted.
-#[tactic(auto, using(crate::proofs::Noted::steps))]
 pub(crate) fn note_delete(
     alloc: Global,
     schema: &Schema,

@@ -43,7 +43,6 @@ fn note_set(
     }
 }
 
-#[tactic(auto, using(crate::proofs::Noted::steps))]
 fn note_cells_of(
     alloc: Global,
     schema: &Schema,
@@ -93,7 +92,6 @@ fn note_key(attribute: Option<&Attribute>, into: &mut Footprint) -> Result<(), A
     }
 }
 
-#[tactic(auto, using(crate::proofs::Noted::steps))]
 fn note_find(
     alloc: Global,
     schema: &Schema,
@@ -113,7 +111,6 @@ fn note_find(
 }
 
 /// Notes the entities of a query's type, and all that has to do with the features that its terms name.
-#[tactic(auto, using(crate::proofs::Noted::steps))]
 fn note_query(
     alloc: Global,
     schema: &Schema,
@@ -134,7 +131,6 @@ fn note_query(
     }
 }
 
-#[tactic(auto, using(crate::proofs::Noted::steps))]
 fn note_ensure(
     alloc: Global,
     schema: &Schema,

@@ -9,7 +9,6 @@ use st_lattice::{Attribute, Schema, StoreKind, store};
 use std::alloc::{AllocError, Global};
 
 /// Notes the extents of a type and of all that descend from it.
-#[tactic(auto, using(crate::proofs::Noted::steps))]
 pub(crate) fn note_extents(
     alloc: Global,
     schema: &Schema,
@@ -61,7 +60,6 @@ fn note_aside(attribute: &Attribute, into: &mut Footprint) -> Result<(), AllocEr
 }
 
 /// Notes what a type's attributes have beside the rows.
-#[tactic(auto, using(crate::proofs::Noted::steps))]
 pub(crate) fn note_asides(schema: &Schema, ty: u16, into: &mut Footprint) -> Result<(), AllocError>
     ensures { OnOk result (into.new ≡ noted (flat_map aside (attributes_in schema.now ty)) into.old) }
 {

@@ -14,7 +14,6 @@ use st_query::Term;
 use std::alloc::{AllocError, Global};
 
 /// Notes a feature of a path: the cell of its attribute, and for an inverse that too.
-#[tactic(auto, using(crate::proofs::Noted::steps))]
 fn note_feature(
     alloc: Global,
     schema: &Schema,
@@ -34,7 +33,6 @@ fn note_feature(
 }
 
 /// Notes the features of a path.
-#[tactic(auto, using(crate::proofs::Noted::steps))]
 fn note_path(
     alloc: Global,
     schema: &Schema,
@@ -53,7 +51,6 @@ fn note_path(
 }
 
 /// Notes the paths of terms.
-#[tactic(auto, using(crate::proofs::Noted::steps))]
 pub(crate) fn note_paths(
     alloc: Global,
     schema: &Schema,
@@ -86,7 +83,6 @@ pub(crate) fn note_called(
 }
 
 /// Notes all that has to do with the features of a query's term.
-#[tactic(auto, using(crate::proofs::Noted::steps))]
 fn note_wholes(
     alloc: Global,
     schema: &Schema,
@@ -105,7 +101,6 @@ fn note_wholes(
 }
 
 /// Notes all that has to do with the features of a query's terms.
-#[tactic(auto, using(crate::proofs::Noted::steps))]
 pub(crate) fn note_all_wholes(
     alloc: Global,
     schema: &Schema,

@@ -88,7 +88,6 @@ fn note_variable(
 }
 
 /// Notes the extent of the entity that a term begins with, where that is not the variable of a query.
-#[tactic(auto, using(crate::proofs::Noted::steps))]
 fn note_start(
     alloc: Global,
     schema: &Schema,
@@ -107,7 +106,6 @@ fn note_start(
 }
 
 /// Notes the extents of the entities that terms begin with, where that is not the variable of a query.
-#[tactic(auto, using(crate::proofs::Noted::steps))]
 pub(crate) fn note_starts(
     alloc: Global,
     schema: &Schema,

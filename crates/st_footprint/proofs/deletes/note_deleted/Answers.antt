@@ -1,0 +1,6 @@
+use Rattle.std.proofs.Common.{arith}
+use Rattle.st_footprint.proofs.Noted.{steps}
+use Rattle.st_footprint.proofs.deletes.note_deleted.Goals as goal
+
+pub returns : goal.returns
+returns c = grind (arith, steps)

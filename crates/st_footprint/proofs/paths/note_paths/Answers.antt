@@ -1,0 +1,6 @@
+use Rattle.std.proofs.Common.{arith}
+use Rattle.st_footprint.proofs.Noted.{steps}
+use Rattle.st_footprint.proofs.paths.note_paths.Goals as goal
+
+pub loop-term-preserved : goal.loop-term-preserved
+loop-term-preserved c = grind (arith, steps)
