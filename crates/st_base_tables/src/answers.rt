@@ -1,91 +1,76 @@
-//! Answers as they are printed.
+//! Answers as they are printed: each is added to the end of a text.
 
 use st_lattice::Schema;
 use st_plain::{BaseFault, Refusal};
 use st_text::Letters;
 use st_values::{EntityId, Value, push_value};
-use std::alloc::{AllocError, Global};
-
-/// A word.
-pub fn word(alloc: Global, text: &str) -> Result<Letters, AllocError> {
-    Letters::from_text(alloc, text)
-}
+use std::alloc::AllocError;
 
 /// Whether something is so.
-pub fn whether(alloc: Global, is_so: bool) -> Result<Letters, AllocError> {
-    word(alloc, if is_so { "true" } else { "false" })
-}
-
-/// A value.
-pub fn value(alloc: Global, schema: &Schema, value: &Value) -> Result<Letters, AllocError> {
-    let mut out = Letters::new(alloc);
-    push_value(&mut out, value, schema.type_names())?;
-    Ok(out)
+pub fn push_whether(out: &mut Letters, is_so: bool) -> Result<(), AllocError> {
+    out.push_str(if is_so { "true" } else { "false" })
 }
 
 /// An entity.
-pub fn entity(alloc: Global, schema: &Schema, entity: EntityId) -> Result<Letters, AllocError> {
-    value(alloc, schema, &Value::Entity(entity))
+pub fn push_entity(out: &mut Letters, schema: &Schema, entity: EntityId) -> Result<(), AllocError> {
+    push_value(out, &Value::Entity(entity), schema.type_names())
 }
 
 /// Values in braces.
-pub fn values(alloc: Global, schema: &Schema, values: &[Value]) -> Result<Letters, AllocError> {
-    let mut out = word(alloc, "{")?;
-    let mut is_behind = false;
-    for value in values {
-        if is_behind {
+pub fn push_values(out: &mut Letters, schema: &Schema, values: &[Value]) -> Result<(), AllocError> {
+    out.push_str("{")?;
+    for (index, value) in values.iter().enumerate() {
+        if index > 0 {
             out.push_str(" ")?;
         }
-        push_value(&mut out, value, schema.type_names())?;
-        is_behind = true;
+        push_value(out, value, schema.type_names())?;
     }
-    out.push_str("}")?;
-    Ok(out)
+    out.push_str("}")
 }
 
 /// Entities in braces.
-pub fn entities(
-    alloc: Global,
+pub fn push_entities(
+    out: &mut Letters,
     schema: &Schema,
     entities: &[EntityId],
-) -> Result<Letters, AllocError> {
-    let mut all = Vec::new(alloc);
-    for entity in entities {
-        all.push(Value::Entity(*entity))?;
+) -> Result<(), AllocError> {
+    out.push_str("{")?;
+    for (index, entity) in entities.iter().enumerate() {
+        if index > 0 {
+            out.push_str(" ")?;
+        }
+        push_entity(out, schema, *entity)?;
     }
-    values(alloc, schema, &all)
+    out.push_str("}")
 }
 
 /// The rule that refuses, and its fields; or another fault.
-pub fn fault(alloc: Global, schema: &Schema, fault: &BaseFault) -> Result<Letters, AllocError> {
+pub fn push_fault(out: &mut Letters, schema: &Schema, fault: &BaseFault) -> Result<(), AllocError> {
     match fault {
-        BaseFault::Refused(refusal) => refused(alloc, schema, refusal),
-        BaseFault::Page(_) => word(alloc, "page"),
-        BaseFault::Memory => word(alloc, "memory"),
+        BaseFault::Refused(refusal) => push_refused(out, schema, refusal),
+        BaseFault::Page(_) => out.push_str("page"),
+        BaseFault::Memory => out.push_str("memory"),
     }
 }
 
-fn refused(alloc: Global, schema: &Schema, refusal: &Refusal) -> Result<Letters, AllocError> {
+fn push_refused(out: &mut Letters, schema: &Schema, refusal: &Refusal) -> Result<(), AllocError> {
     match refusal {
         Refusal::NotUnique { attribute, holder } => {
-            let mut out = word(alloc, "refused 4 ")?;
+            out.push_str("refused 4 ")?;
             out.push_str(attribute.as_str())?;
             out.push_str(" ")?;
-            push_value(&mut out, &Value::Entity(*holder), schema.type_names())?;
-            Ok(out)
+            push_entity(out, schema, *holder)
         }
         Refusal::StillNeeded { entity, attribute } => {
-            let mut out = word(alloc, "refused 6 ")?;
-            push_value(&mut out, &Value::Entity(*entity), schema.type_names())?;
+            out.push_str("refused 6 ")?;
+            push_entity(out, schema, *entity)?;
             out.push_str(" ")?;
-            out.push_str(attribute.as_str())?;
-            Ok(out)
+            out.push_str(attribute.as_str())
         }
         Refusal::NumbersSpent { ty } => {
-            let mut out = word(alloc, "refused 9 ")?;
-            out.push_str(ty.as_str())?;
-            Ok(out)
+            out.push_str("refused 9 ")?;
+            out.push_str(ty.as_str())
         }
-        _ => word(alloc, "refused"),
+        _ => out.push_str("refused"),
     }
 }

@@ -1,7 +1,7 @@
 //! What a call is given: forms, as a schema names what they stand for.
 
 use st_lattice::{Called, Schema};
-use st_sexp::{Form, Forms, SexpFault, Shape, read};
+use st_sexp::{Form, Forms, SexpFault, Shape, as_name, as_number, read};
 use st_text::Duplicate;
 use st_values::{EntityId, Value};
 use std::alloc::{AllocError, Global};
@@ -16,11 +16,11 @@ pub fn forms_of(alloc: Global, text: &[u8]) -> Result<Forms, SexpFault> {
 
 /// The name that a form is, or nothing.
 pub fn name_of(form: Option<&Form>) -> &str {
-    match form {
-        Some(form) => match &form.shape {
-            Shape::Name(name) => name.as_str(),
-            _ => "",
-        },
+    let Some(form) = form else {
+        return "";
+    };
+    match as_name(form) {
+        Some(name) => name.as_str(),
         None => "",
     }
 }
@@ -65,8 +65,8 @@ fn named_value(schema: &Schema, form: Option<&Form>) -> Value {
 
 /// The serial that a form is; 0 where it is none.
 pub fn serial_of(form: &Form) -> u32 {
-    match &form.shape {
-        Shape::Number(number) => u32::try_from(*number).unwrap_or(0),
-        _ => 0,
+    match as_number(form) {
+        Some(number) => u32::try_from(number).unwrap_or(0),
+        None => 0,
     }
 }
