@@ -1,9 +1,18 @@
 -- What a statement gives, from what its calls give.
 use Rattle.std.proofs.Common.{◌≡◌, ℕ, Bool, true, false, List, [], ◌∷◌, Option, Some, None, Result, Ok, Err, refl, sym, ◌∙◌, ap, subst}
-use Rattle.std.proofs.Common.{inr, append-nil}
-use Rattle.std.specs.Prelude.{◌++◌, map, flat_map, All}
+use Rattle.std.proofs.Common.{inl, inr, append-nil, true≢false}
+use Rattle.std.specs.Prelude.{◌++◌, ◌&&◌, not, map, filter, flat_map, All}
+use Rattle.std.specs.List.{list_all, list_any}
 use Rattle.std.proofs.lemmas.List.Elements.{All-nil, All-append}
 use Rattle.st_values.specs.declared.value.EntityId.{EntityId}
+use Rattle.st_values.specs.Order.{same_entity}
+use Rattle.st_values.specs.Arranged.{arranged}
+use Rattle.st_values.proofs.Tests.{both, left, right, either, not-true, all-not, all-filter, all-arranged}
+use Rattle.st_lattice.specs.Outline.{type_named}
+use Rattle.st_lattice.specs.Lattice.{isa}
+use Rattle.st_query.specs.declared.query.Query.{Query}
+use Rattle.st_state.proofs.Members.{Member, all-members, member-filter, member-passes}
+use Rattle.st_lines.specs.Shown.{AreOf}
 use Rattle.st_query.specs.declared.statement.Statement.{Statement}
 use Rattle.st_query.specs.declared.statement.Statement.TheVariants.{Make, Set, Add, Take, Delete, Find, Ensure, Let, Print, ForEach, Abort}
 use Rattle.st_query.specs.declared.kind.Expected.{Expected}
@@ -15,10 +24,11 @@ use Rattle.st_query.specs.Written.{terms_of, starts_of}
 use Rattle.st_query.specs.Footprint.{start_stores, feature_stores, path_stores, effect_stores}
 use Rattle.st_lattice.specs.Called.{called}
 use Rattle.st_state.specs.declared.refusal.Refusal.{Refusal}
-use Rattle.st_state.specs.State.{State}
+use Rattle.st_state.specs.State.{State, is_live, entities_of}
 use Rattle.st_state.specs.Legal.{IsNearlyLegal}
 use Rattle.st_state.specs.Refusals.{first_of}
-use Rattle.st_meaning.specs.Statements.{Present, value_now, does, print_tail}
+use Rattle.st_meaning.specs.Statements.{Present, value_now, does, print_tail, answers}
+use Rattle.st_meaning.specs.Selection.{holds, variables_at, entities_in, written_before, selected}
 use Rattle.st_meaning.specs.Rules.{dead, rules_1_2_7, rule_5, refusal}
 use Rattle.st_meaning.specs.Terms.{start_value}
 use Rattle.st_meaning.specs.Checks.{term_refused}
@@ -29,11 +39,11 @@ use Rattle.st_plain.specs.declared.fault.BaseFault.TheVariants.{Refused, Page, M
 use Rattle.st_plain.specs.Base.{Asked, Reaches}
 use Rattle.st_terms.specs.Looks.{AreAmong, AskedAt, Place, Answers, Looks, Concludes, Changes}
 use Rattle.st_terms.specs.Checked.{IsChecked, touched, places_of}
-use Rattle.st_terms.proofs.Looking.{among-itself, among-chain, among-left, among-right, among-both, at-more, at-looking}
+use Rattle.st_terms.proofs.Looking.{among-itself, among-chain, among-left, among-right, among-both, at-more, at-looking, reaches-nothing}
 use Rattle.st_terms.proofs.Stores.{term-among}
 use Rattle.st_terms.proofs.Admitted.{one, admitted-term}
 use Rattle.st_terms.specs.Routes.{AdmitsTerm, term_stores}
-use Rattle.st_running.specs.Steps.{may_put, first_place, Steps, IsOutcome}
+use Rattle.st_running.specs.Steps.{may_put, first_place, Steps, bound_by, IsOutcome}
 use Rattle.st_running.specs.declared.outcome.Outcome.{Outcome}
 use Rattle.st_values.specs.declared.value.Value.{Value}
 use Rattle.st_query.specs.Terms.{bind}
@@ -148,3 +158,89 @@ let-outcome p var t o v e f = subst (IsOutcome p (Let var t)) (sym e) (refl, ap 
 
 pub print-outcome : (p : Present) (ts : List Term) (o : Outcome) (line : List ℕ) → o ≡ record { lines = line ∷ []; bound = None } → line ≡ print_tail p ts → IsOutcome p (Print ts) o
 print-outcome p ts o line e f = subst (IsOutcome p (Print ts)) (sym e) (ap (λ x. x ∷ []) f, refl)
+
+pub bound-outcome : (p : Present) (st : Statement) (o : Outcome) (v : Value) → answers p st ≡ [] → o ≡ record { lines = []; bound = Some v } → (does p st).variables ≡ bound_by st (Some v) p.variables → IsOutcome p st o
+bound-outcome p st o v n e f = subst (IsOutcome p st) (sym e) (sym n, sym f)
+
+-- ---- statements that change something
+
+pub change-failed : {A C : Type 0} (p : Present) (st : Statement) (stands : State → Type 0) (asks : List Asked → Type 0) (got : EntityId → ℕ → Type 0) (right : A → Type 0) (right_then : C → Type 0) (e : BaseFault)
+    → may_put st ≡ true → places_of p st ≡ [] → first_place p st ≡ []
+    → Changes (refusal p st) stands asks p.state (does p st).state right (touched p.state.schema p.variables st) (Err e) → Steps p st stands asks got right_then (Err e)
+change-failed {C = C} p st stands asks got right right_then e m places firsts f = record {
+  concludes = by e f.concludes;
+  asked = subst (λ b. AskedAt asks b (touched p.state.schema p.variables st)) (sym m) f.asked;
+  reached = subst (λ ps. Reaches {A = C} (All (λ place. got place.entity place.number) ps) (Err e)) (sym places) (reaches-nothing (λ place. got place.entity place.number) (Err e));
+  first = inl (subst (All (λ place. got place.entity place.number)) (sym firsts) (All-nil (λ place. got place.entity place.number)));
+}
+  where
+    by : (x : BaseFault) → Concludes (refusal p st) stands p.state (does p st).state right (Err x) → Concludes {A = C} (refusal p st) stands p.state (does p st).state right_then (Err x)
+    by (Refused r) h = h
+    by (Page fault) h = h
+    by Memory h = tt
+
+pub change-answered : {A C : Type 0} (p : Present) (st : Statement) (stands : State → Type 0) (asks : List Asked → Type 0) (got : EntityId → ℕ → Type 0) (right : A → Type 0) (right_then : C → Type 0) (x : A) (y : C)
+    → may_put st ≡ true → places_of p st ≡ [] → first_place p st ≡ [] → (right x → right_then y)
+    → Changes (refusal p st) stands asks p.state (does p st).state right (touched p.state.schema p.variables st) (Ok x) → Steps p st stands asks got right_then (Ok y)
+change-answered p st stands asks got right right_then x y m places firsts so f = record {
+  concludes = (f.concludes.0, so f.concludes.1, f.concludes.2);
+  asked = subst (λ b. AskedAt asks b (touched p.state.schema p.variables st)) (sym m) f.asked;
+  reached = subst (All (λ place. got place.entity place.number)) (sym places) (All-nil (λ place. got place.entity place.number));
+  first = inl (subst (All (λ place. got place.entity place.number)) (sym firsts) (All-nil (λ place. got place.entity place.number)));
+}
+
+-- ---- find
+
+pub find-free : (p : Present) (var ty key : List ℕ) (t : Term) → IsChecked p (Find var ty key t) → refusal p (Find var ty key t) ≡ None
+unfolding refusal
+find-free p var ty key t h = none-of (rules_1_2_7 p (Find var ty key t)) (rule_5 p (Find var ty key t)) h.text h.live
+
+-- ---- for-each
+
+pub query-free : (p : Present) (query : Query) → IsChecked p (ForEach query) → refusal p (ForEach query) ≡ None
+unfolding refusal
+query-free p query h = none-of (rules_1_2_7 p (ForEach query)) (rule_5 p (ForEach query)) h.text h.live
+
+live-each : (es : List EntityId) → list_all (λ e. list_any (same_entity e) es) es ≡ true
+live-each es = all-members (λ e. list_any (same_entity e) es) es (λ e m. by e m)
+  where
+    by : (e : EntityId) → Member e es → list_any (same_entity e) es ≡ true
+    by e m = either (list_any (same_entity e) es) (λ b. list_any (same_entity e) es ≡ b → b ≡ true) (λ _ _. refl)
+        (λ k _. absurd (true≢false (sym (same_entity-itself e) ∙ not-true (same_entity e e) (m (λ y. not (same_entity e y)) (all-not (same_entity e) es ∙ ap not k))))) refl
+
+of-type : (s : State) (ty : ℕ) → list_all (λ e. is_live s e && isa s.schema e.ty ty) (entities_of s ty) ≡ true
+of-type s ty =
+    all-members (λ e. is_live s e && isa s.schema e.ty ty) (entities_of s ty)
+    (λ e m. both (is_live s e) (isa s.schema e.ty ty) (member-filter (λ x. isa s.schema x.ty ty) e s.live m (is_live s) (live-each s.live)) (member-passes (λ x. isa s.schema x.ty ty) e s.live m))
+
+-- the entities that are selected are live and of the type
+pub selected-of : (p : Present) (query : Query) (es : List EntityId) → es ≡ selected p.state p.variables query → AreOf p.state query es
+selected-of p query es e = subst (AreOf p.state query) (sym e) (by (type_named p.state.schema query.ty) refl)
+  where
+    s : State
+    s = p.state
+
+    test : EntityId → Bool
+    test = λ x. list_all (holds s (variables_at p.variables query x)) query.conditions
+
+    none-type : (ty : ℕ) → None ≡ Some ty → ⊥
+    none-type ty k = cc
+
+    inside : (t ty : ℕ) → Some t ≡ Some ty → t ≡ ty
+    inside t ty k = cc
+
+    by : (o : Option ℕ) → type_named s.schema query.ty ≡ o → AreOf s query (arranged (written_before s p.variables query) (filter test (entities_in s (type_named s.schema query.ty))))
+    by None k = subst (λ es'. AreOf s query (arranged (written_before s p.variables query) (filter test (entities_in s es')))) (sym k) (All-nil (λ x. (is_live s x ≡ true) × ((ty : ℕ) → type_named s.schema query.ty ≡ Some ty → isa s.schema x.ty ty ≡ true)))
+    by (Some t) k =
+        subst (λ o'. AreOf s query (arranged (written_before s p.variables query) (filter test (entities_in s o')))) (sym k)
+        (all-of (arranged (written_before s p.variables query) (filter test (entities_of s t)))
+        (all-arranged (written_before s p.variables query) (λ x. is_live s x && isa s.schema x.ty t) (filter test (entities_of s t)) (all-filter (λ x. is_live s x && isa s.schema x.ty t) test (entities_of s t) (of-type s t))))
+      where
+        all-of : (xs : List EntityId) → list_all (λ x. is_live s x && isa s.schema x.ty t) xs ≡ true → AreOf s query xs
+        all-of [] h = All-nil (λ x. (is_live s x ≡ true) × ((ty : ℕ) → type_named s.schema query.ty ≡ Some ty → isa s.schema x.ty ty ≡ true))
+        all-of (x ∷ xs) h =
+            let here = left (is_live s x && isa s.schema x.ty t) (list_all (λ y. is_live s y && isa s.schema y.ty t) xs) h in
+            All-append (λ y. (is_live s y ≡ true) × ((ty : ℕ) → type_named s.schema query.ty ≡ Some ty → isa s.schema y.ty ty ≡ true)) (x ∷ []) xs
+            (one (λ y. (is_live s y ≡ true) × ((ty : ℕ) → type_named s.schema query.ty ≡ Some ty → isa s.schema y.ty ty ≡ true)) x
+            (left (is_live s x) (isa s.schema x.ty t) here, λ ty m. subst (λ z. isa s.schema x.ty z ≡ true) (inside t ty (sym k ∙ m)) (right (is_live s x) (isa s.schema x.ty t) here)))
+            (all-of xs (right (is_live s x && isa s.schema x.ty t) (list_all (λ y. is_live s y && isa s.schema y.ty t) xs) h))

@@ -1,6 +1,6 @@
 //! Statements that were checked, one by one.
 ghost use Rattle.std.specs.Prelude.{◌≡◌, ℕ, List, [], ◌∷◌, Some, None, IfOk};
-ghost use Rattle.st_query.specs.declared.statement.Statement.TheVariants.{Let as LetBe, Print as PrintOf, Set as SetTo, Add as AddTo, Take as TakeFrom, Delete as DeleteOf};
+ghost use Rattle.st_query.specs.declared.statement.Statement.TheVariants.{Let as LetBe, Print as PrintOf, Set as SetTo, Add as AddTo, Take as TakeFrom, Delete as DeleteOf, Find as FindIn, Make as MakeOf, Ensure as EnsureOf, ForEach};
 ghost use Rattle.st_state.specs.State.{State};
 ghost use Rattle.st_terms.specs.Looks.{Keeps};
 ghost use Rattle.st_terms.specs.Checked.{present, IsChecked};
@@ -10,9 +10,11 @@ use crate::Outcome;
 use sqlite_items::Items;
 use st_changes::{add, delete, set, take};
 use st_lattice::Schema;
-use st_lines::print;
+use st_lines::{for_each, print};
+use st_makes::{ensure, find, make};
 use st_plain::{Base, BaseFault};
-use st_query::{Term, Variable};
+use st_query::{Cell, Query, Term, Variable};
+use st_select::Engine;
 use st_terms::term_value;
 use st_values::{Letters, Value};
 use std::alloc::{AllocError, Global};
@@ -152,4 +154,73 @@ pub fn run_delete<B: Base>(
 {
     delete(base, alloc, schema, variables, target)?;
     Ok(nothing(alloc))
+}
+
+pub fn run_find<B: Base>(
+    base: &mut B,
+    alloc: Global,
+    schema: &Schema,
+    variables: &[Variable],
+    ty: &[u8],
+    key: &[u8],
+    value: &Term,
+) -> Result<Outcome, BaseFault>
+    requires { schema.now ≡ B.schema base.old }
+    ensures steps { (w : B.Witness) (s : State) → B.agrees base.new w → B.stands base.old w s → (var : List ℕ) → IsChecked (present s variables.now) (FindIn var ty.now key.now value.now) →
+        Steps (present s variables.now) (FindIn var ty.now key.now value.now) (B.stands base.new w) (B.asks base.old base.new w) (B.reached base.new w) (IsOutcome (present s variables.now) (FindIn var ty.now key.now value.now)) result }
+    ensures keeps { Keeps (B.follows base.old base.new) (B.met base.old) (B.met base.new) result }
+{
+    let found = find(base, alloc, schema, variables, ty, key, value)?;
+    Ok(bound(alloc, found))
+}
+
+pub fn run_make<B: Base>(
+    base: &mut B,
+    alloc: Global,
+    schema: &Schema,
+    variables: &[Variable],
+    ty: &[u8],
+    cells: &[Cell],
+) -> Result<Outcome, BaseFault>
+    requires { schema.now ≡ B.schema base.old }
+    ensures steps { (w : B.Witness) (s : State) → B.agrees base.new w → B.stands base.old w s → (var : List ℕ) → IsChecked (present s variables.now) (MakeOf var ty.now cells.now) →
+        Steps (present s variables.now) (MakeOf var ty.now cells.now) (B.stands base.new w) (B.asks base.old base.new w) (B.reached base.new w) (IsOutcome (present s variables.now) (MakeOf var ty.now cells.now)) result }
+    ensures keeps { Keeps (B.follows base.old base.new) (B.met base.old) (B.met base.new) result }
+{
+    let made = make(base, alloc, schema, variables, ty, cells)?;
+    Ok(bound(alloc, Value::Entity(made)))
+}
+
+pub fn run_ensure<B: Base>(
+    base: &mut B,
+    alloc: Global,
+    schema: &Schema,
+    variables: &[Variable],
+    ty: &[u8],
+    cells: &[Cell],
+) -> Result<Outcome, BaseFault>
+    requires { schema.now ≡ B.schema base.old }
+    ensures steps { (w : B.Witness) (s : State) → B.agrees base.new w → B.stands base.old w s → (var : List ℕ) → IsChecked (present s variables.now) (EnsureOf var ty.now cells.now) →
+        Steps (present s variables.now) (EnsureOf var ty.now cells.now) (B.stands base.new w) (B.asks base.old base.new w) (B.reached base.new w) (IsOutcome (present s variables.now) (EnsureOf var ty.now cells.now)) result }
+    ensures keeps { Keeps (B.follows base.old base.new) (B.met base.old) (B.met base.new) result }
+{
+    let ensured = ensure(base, alloc, schema, variables, ty, cells)?;
+    Ok(bound(alloc, Value::Entity(ensured)))
+}
+
+pub fn run_for_each<E: Engine>(
+    engine: &mut E,
+    alloc: Global,
+    schema: &Schema,
+    variables: &[Variable],
+    query: &Query,
+) -> Result<Outcome, BaseFault>
+    requires { schema.now ≡ E.schema engine.old }
+    ensures steps { (w : E.Witness) (s : State) → E.agrees engine.new w → E.stands engine.old w s → IsChecked (present s variables.now) (ForEach query.now) →
+        Steps (present s variables.now) (ForEach query.now) (E.stands engine.new w) (E.asks engine.old engine.new w) (E.reached engine.new w) (IsOutcome (present s variables.now) (ForEach query.now)) result }
+    ensures keeps { Keeps (E.follows engine.old engine.new) (E.met engine.old) (E.met engine.new) result }
+{
+    let entities = engine.select(alloc, variables, query)?;
+    let lines = for_each(engine, alloc, schema, variables, query, entities.as_slice())?;
+    Ok(Outcome { lines, bound: None })
 }

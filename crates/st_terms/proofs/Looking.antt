@@ -85,6 +85,25 @@ reaches-map P Q (Err (Refused (Full n))) f h = f h
 reaches-map P Q (Err (Page fault)) f h = tt
 reaches-map P Q (Err Memory) f h = tt
 
+-- no place
+pub reaches-nothing : {A : Type 0} (P : Place → Type 0) (r : Result A BaseFault) → Reaches (All P []) r
+reaches-nothing P (Ok x) = All-nil P
+reaches-nothing P (Err (Refused (UnknownName n))) = tt
+reaches-nothing P (Err (Refused WrongType)) = tt
+reaches-nothing P (Err (Refused (NullNotAllowed n))) = tt
+reaches-nothing P (Err (Refused (NotUnique n e))) = tt
+reaches-nothing P (Err (Refused (NoSuchEntity e))) = tt
+reaches-nothing P (Err (Refused (StillNeeded e n))) = tt
+reaches-nothing P (Err (Refused (NotASet n))) = tt
+reaches-nothing P (Err (Refused (TextTooLong a b))) = tt
+reaches-nothing P (Err (Refused (NumbersSpent n))) = tt
+reaches-nothing P (Err (Refused Aborted)) = tt
+reaches-nothing P (Err (Refused NullEntity)) = tt
+reaches-nothing P (Err (Refused (TooManyPages n))) = All-nil P
+reaches-nothing P (Err (Refused (Full n))) = All-nil P
+reaches-nothing P (Err (Page fault)) = tt
+reaches-nothing P (Err Memory) = tt
+
 -- ---- what calls give
 
 -- calls that only look, behind others that were answered
