@@ -1,10 +1,9 @@
 -- The rules that come before anything is evaluated.
-use Rattle.std.proofs.Common.{◌≡◌, ℕ, ◌≤◌, Bool, true, false, List, [], ◌∷◌, Option, Some, None, Result, Ok, Err, refl, sym, ◌∙◌, ap, subst, true≢false, arith, inl, inr, append-nil}
-use Rattle.std.specs.Prelude.{◌++◌, ◌&&◌, ◌==◌, ◌⊎◌, suc, not, is_some, length, flat_map, if◌then◌else◌, All, IsTrue}
+use Rattle.std.proofs.Common.{◌≡◌, ℕ, ◌≤◌, Bool, true, false, List, [], ◌∷◌, Option, Some, None, Result, Ok, Err, refl, sym, ◌∙◌, ap, subst, true≢false, arith, inl, inr}
+use Rattle.std.specs.Prelude.{IfOk, ◌++◌, ◌&&◌, ◌==◌, ◌⊎◌, not, is_some, length, flat_map, if◌then◌else◌, All, IsTrue}
 use Rattle.std.specs.List.{list_all, list_any}
-use Rattle.std.proofs.lemmas.List.Elements.{All-nil}
 use Rattle.st_values.specs.declared.value.EntityId.{EntityId}
-use Rattle.st_values.proofs.Tests.{left, right, not-true}
+use Rattle.st_values.proofs.Tests.{both, left, right, not-true}
 use Rattle.st_lattice.specs.Outline.{Outline}
 use Rattle.st_query.specs.declared.statement.Statement.{Statement}
 use Rattle.st_query.specs.declared.statement.Statement.TheVariants.{Make, Set, Add, Take, Delete, Find, Ensure, Let, Print, ForEach, Abort}
@@ -15,19 +14,21 @@ use Rattle.st_state.specs.declared.refusal.Refusal.{Refusal}
 use Rattle.st_state.specs.declared.refusal.Refusal.TheVariants.{UnknownName, WrongType, NullNotAllowed, NotUnique, NoSuchEntity, StillNeeded, NotASet, TextTooLong, NumbersSpent, Aborted, NullEntity, TooManyPages, Full}
 use Rattle.st_state.specs.Legal.{IsLegal}
 use Rattle.st_state.specs.Refusals.{rule_number, first_of}
-use Rattle.st_state.specs.State.{State}
+use Rattle.st_state.specs.State.{State, empty_state}
+use Rattle.st_query.specs.Kinds.{known}
+use Rattle.st_meaning.specs.Checks.{text_refused}
 use Rattle.st_meaning.specs.Laws.{is_by, are_by, order_of_rules}
-use Rattle.st_meaning.specs.Statements.{Present, does}
+use Rattle.st_meaning.specs.Statements.{Present}
 use Rattle.st_meaning.specs.Rules.{rule_10, rules_1_2_7, rule_5, rule_11, rule_8, rule_3, rule_4, rule_6, rule_9, rules, refusal}
 use Rattle.st_meaning.proofs.Alone.{own_numbers}
 use Rattle.st_meaning.proofs.Sorts.{first-none, others-none}
 use Rattle.st_plain.specs.declared.fault.BaseFault.{BaseFault}
-use Rattle.st_plain.specs.declared.fault.BaseFault.TheVariants.{Refused, Page, Memory}
-use Rattle.st_plain.specs.Base.{Asked, Refuses, Reaches}
-use Rattle.st_terms.specs.Looks.{AreAmong, AskedAt, Looks, Concludes}
-use Rattle.st_terms.specs.Checked.{present, IsChecked, touched, places_of}
-use Rattle.st_terms.proofs.Looking.{among-left, among-chain, among-both, among-itself, at-more, at-looking, at-both, all-map, looks-fail}
-use Rattle.st_running.specs.Named.{is_abort, text_refusal, checks}
+use Rattle.st_plain.specs.declared.fault.BaseFault.TheVariants.{Refused}
+use Rattle.st_plain.specs.Base.{Met, Asked, TellsMet, Refuses, Reaches, behind}
+use Rattle.st_terms.specs.Looks.{AreAmong, AskedAt, Looks, Keeps}
+use Rattle.st_terms.specs.Checked.{present, IsChecked, touched}
+use Rattle.st_terms.proofs.Looking.{among-left, among-chain, among-both, among-itself, at-more, at-looking, at-both, at-nothing}
+use Rattle.st_running.specs.Named.{is_abort, text_refusal, dead_refusal, checks}
 use Rattle.st_running.specs.Steps.{may_put, first_place, Steps}
 
 some-none : {A : Type 0} (a : A) → Some a ≡ None → ⊥
@@ -190,3 +191,67 @@ step-checked p st stands behind first second whole got got_then right r on legal
         let starts = flat_map (start_stores p.state.schema p.variables) (starts_of st) in
         let all = touched p.state.schema p.variables st in
         inr (at-more whole false (starts ++ all) all (among-both starts all all (starts-touched p st) (among-itself all)) (at-both first second whole false starts all on f.asked asked))
+
+-- ---- the checks' refusals tell of no fault of pages
+
+not-of-pages : (r : Refusal) → (rule_number r ≡ 12 → ⊥) → (rule_number r ≡ 13 → ⊥) → behind r ≡ None
+not-of-pages (UnknownName n) f g = refl
+not-of-pages WrongType f g = refl
+not-of-pages (NullNotAllowed n) f g = refl
+not-of-pages (NotUnique n x) f g = refl
+not-of-pages (NoSuchEntity x) f g = refl
+not-of-pages (StillNeeded x n) f g = refl
+not-of-pages (NotASet n) f g = refl
+not-of-pages (TextTooLong a b) f g = refl
+not-of-pages (NumbersSpent n) f g = refl
+not-of-pages Aborted f g = refl
+not-of-pages NullEntity f g = refl
+not-of-pages (TooManyPages n) f g = absurd (f refl)
+not-of-pages (Full n) f g = absurd (g refl)
+
+pub text_own : (schema : Outline) (variables : List Variable) (st : Statement) (refused : Option Refusal) → refused ≡ text_refusal schema variables st → (r : Refusal) → refused ≡ Some r → behind r ≡ None
+text_own schema variables st refused is r e =
+    let p = present (empty_state schema) variables in
+    let whole : first_of (rule_10 p st ∷ rules_1_2_7 p st ∷ []) ≡ Some r = sym (text-is (empty_state schema) variables st) ∙ sym is ∙ e in
+    let all = own_numbers p st in
+    let rest = right (is_by (10 ∷ []) (rule_10 p st)) _ all in
+    let two : are_by ((10 ∷ []) ∷ (1 ∷ 2 ∷ 7 ∷ []) ∷ []) (rule_10 p st ∷ rules_1_2_7 p st ∷ []) ≡ true =
+    both (is_by (10 ∷ []) (rule_10 p st)) (is_by (1 ∷ 2 ∷ 7 ∷ []) (rules_1_2_7 p st) && true) (left (is_by (10 ∷ []) (rule_10 p st)) _ all)
+    (both (is_by (1 ∷ 2 ∷ 7 ∷ []) (rules_1_2_7 p st)) true (left (is_by (1 ∷ 2 ∷ 7 ∷ []) (rules_1_2_7 p st)) _ rest) refl) in
+    not-of-pages r
+    (λ k. not-by r ((10 ∷ []) ∷ (1 ∷ 2 ∷ 7 ∷ []) ∷ []) (rule_10 p st ∷ rules_1_2_7 p st ∷ []) two whole (subst (λ n. list_all (λ l. not (list_any (λ number. n == number) l)) ((10 ∷ []) ∷ (1 ∷ 2 ∷ 7 ∷ []) ∷ []) ≡ true) (sym k) refl) (omega arith))
+    (λ k. not-by r ((10 ∷ []) ∷ (1 ∷ 2 ∷ 7 ∷ []) ∷ []) (rule_10 p st ∷ rules_1_2_7 p st ∷ []) two whole (subst (λ n. list_all (λ l. not (list_any (λ number. n == number) l)) ((10 ∷ []) ∷ (1 ∷ 2 ∷ 7 ∷ []) ∷ []) ≡ true) (sym k) refl) (omega arith))
+
+text-alone : (schema : Outline) (variables : List Variable) (st : Statement) (x : Option Refusal) → is_abort st ≡ false → x ≡ text_refused schema (known variables) st → x ≡ text_refusal schema variables st
+text-alone schema variables st x h e = e ∙ alone (text_refused schema (known variables) st) ∙ ap (λ b. first_of ((if b then Some Aborted else None) ∷ text_refused schema (known variables) st ∷ [])) (sym h)
+  where
+    alone : (o : Option Refusal) → o ≡ first_of (None ∷ o ∷ [])
+    alone None = refl
+    alone (Some r) = refl
+
+pub text-own-alone : {E : Type 0} (schema : Outline) (variables : List Variable) (st : Statement) (r : Result (Option Refusal) E) → is_abort st ≡ false → IfOk r (λ x. x ≡ text_refused schema (known variables) st)
+    → IfOk r (λ refused. (q : Refusal) → refused ≡ Some q → behind q ≡ None)
+text-own-alone schema variables st (Ok x) h f = text_own schema variables st x (text-alone schema variables st x h f)
+text-own-alone schema variables st (Err e) h f = tt
+
+pub dead_own : (found : Option EntityId) (refused : Option Refusal) → refused ≡ dead_refusal found → (r : Refusal) → refused ≡ Some r → behind r ≡ None
+dead_own None refused is r e = absurd (some-none r (sym e ∙ is))
+dead_own (Some x) refused is r e = subst (λ q. behind q ≡ None) (inside (sym is ∙ e)) refl
+  where
+    inside : Some (NoSuchEntity x) ≡ Some r → NoSuchEntity x ≡ r
+    inside k = cc
+
+-- what is kept where the checks refuse
+pub keeps-refused : {A : Type 0} (follows : Type 0) (a b : Met) (refused : Option Refusal) (r : Refusal) → refused ≡ Some r → ((q : Refusal) → refused ≡ Some q → behind q ≡ None) → Keeps follows a b (Ok refused) → Keeps {A = A} follows a b (Err (Refused r))
+keeps-refused follows a b refused r e own h = record { below = h.below; met = subst (TellsMet a b) (sym (own r e)) h.met; own = tt }
+
+-- ---- abort
+
+pub abort-steps : {A : Type 0} (p : Present) (stands : State → Type 0) (asks : List Asked → Type 0) (got : EntityId → ℕ → Type 0) (right : A → Type 0) → asks [] → stands p.state → Steps p Abort stands asks got right (Err (Refused Aborted))
+unfolding refusal
+abort-steps p stands asks got right nothing h = record {
+  concludes = (refl, h);
+  asked = at-nothing asks false (touched p.state.schema p.variables Abort) nothing;
+  reached = tt;
+  first = inr (at-nothing asks false (touched p.state.schema p.variables Abort) nothing);
+}

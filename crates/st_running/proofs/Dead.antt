@@ -1,9 +1,9 @@
 -- The first of some entities that is not live, looked for one after the other.
-use Rattle.std.proofs.Common.{◌≡◌, ℕ, ◌+◌, ◌<◌, Bool, true, false, List, [], ◌∷◌, Option, Some, None, Result, Ok, Err, refl, sym, ◌∙◌, ap, subst, arith, length, take, get_or, true≢false}
-use Rattle.std.specs.Prelude.{◌++◌, zero, suc, cond, not, find, flat_map, All}
+use Rattle.std.proofs.Common.{◌≡◌, ℕ, ◌+◌, ◌<◌, Bool, true, false, List, [], ◌∷◌, Some, None, Ok, Err, refl, sym, ◌∙◌, ap, subst, arith, length, take, get_or}
+use Rattle.std.specs.Prelude.{◌++◌, zero, suc, cond, not, find, flat_map}
 use Rattle.std.proofs.lemmas.List.Elements.{All-nil}
 use Rattle.st_values.specs.declared.value.EntityId.{EntityId}
-use Rattle.st_values.proofs.Tests.{either, not-true, not-false}
+use Rattle.st_values.proofs.Tests.{either}
 use Rattle.st_lattice.specs.declared.stores.StoreKind.TheVariants.{Extent}
 use Rattle.st_lattice.specs.Stores.{store}
 use Rattle.st_state.specs.State.{State, is_live}

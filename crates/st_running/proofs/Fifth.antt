@@ -1,5 +1,5 @@
 -- Rule 5 and the extents of literals and variables, by the entities that a statement names.
-use Rattle.std.proofs.Common.{◌≡◌, ℕ, Bool, true, false, List, [], ◌∷◌, Option, Some, None, Ok, Err, refl, sym, ◌∙◌, ap, subst, append-nil}
+use Rattle.std.proofs.Common.{◌≡◌, ℕ, List, [], ◌∷◌, Option, Some, None, Ok, Err, refl, sym, ◌∙◌, ap, subst, append-nil}
 use Rattle.std.specs.Prelude.{◌++◌, cond, not, map, filter, find, flat_map, if◌then◌else◌}
 use Rattle.std.proofs.lemmas.Grind.{flat_map-append}
 use Rattle.st_values.specs.declared.value.EntityId.{EntityId}
@@ -27,7 +27,7 @@ use Rattle.st_plain.specs.Base.{Asked}
 use Rattle.st_terms.proofs.Looking.{looks-fail}
 use Rattle.st_terms.specs.Looks.{Looks}
 use Rattle.st_terms.specs.Checked.{present}
-use Rattle.st_running.specs.Named.{start_entity, listed, is_hidden, term_names, terms_name, statement_names, extents_of, dead_refusal}
+use Rattle.st_running.specs.Named.{start_entity, listed, is_hidden, terms_name, statement_names, extents_of, dead_refusal}
 use Rattle.st_running.proofs.Dead.{gone}
 
 start-is : (s : State) (variables : List Variable) (start : Start) → start_entity s.schema variables start ≡ entity_in (start_value s variables start)

@@ -6,6 +6,7 @@ use Rattle.std.specs.List.{list_all, list_any}
 use Rattle.std.proofs.lemmas.List.Elements.{All-nil, All-append}
 use Rattle.st_values.specs.declared.value.EntityId.{EntityId}
 use Rattle.st_values.specs.Order.{same_entity}
+use Rattle.st_values.proofs.Entities.{same_entity-itself}
 use Rattle.st_values.specs.Arranged.{arranged}
 use Rattle.st_values.proofs.Tests.{both, left, right, either, not-true, all-not, all-filter, all-arranged}
 use Rattle.st_lattice.specs.Outline.{type_named}
@@ -14,7 +15,7 @@ use Rattle.st_query.specs.declared.query.Query.{Query}
 use Rattle.st_state.proofs.Members.{Member, all-members, member-filter, member-passes}
 use Rattle.st_lines.specs.Shown.{AreOf}
 use Rattle.st_query.specs.declared.statement.Statement.{Statement}
-use Rattle.st_query.specs.declared.statement.Statement.TheVariants.{Make, Set, Add, Take, Delete, Find, Ensure, Let, Print, ForEach, Abort}
+use Rattle.st_query.specs.declared.statement.Statement.TheVariants.{Find, Let, Print, ForEach}
 use Rattle.st_query.specs.declared.kind.Expected.{Expected}
 use Rattle.st_query.specs.declared.kind.Expected.TheVariants.{Anything, AnyValue}
 use Rattle.st_query.specs.declared.term.Term.{Term}
@@ -27,7 +28,7 @@ use Rattle.st_state.specs.declared.refusal.Refusal.{Refusal}
 use Rattle.st_state.specs.State.{State, is_live, entities_of}
 use Rattle.st_state.specs.Legal.{IsNearlyLegal}
 use Rattle.st_state.specs.Refusals.{first_of}
-use Rattle.st_meaning.specs.Statements.{Present, value_now, does, print_tail, answers}
+use Rattle.st_meaning.specs.Statements.{Present, value_now, does, print_tail, answers, query_tails}
 use Rattle.st_meaning.specs.Selection.{holds, variables_at, entities_in, written_before, selected}
 use Rattle.st_meaning.specs.Rules.{dead, rules_1_2_7, rule_5, refusal}
 use Rattle.st_meaning.specs.Terms.{start_value}
@@ -39,7 +40,7 @@ use Rattle.st_plain.specs.declared.fault.BaseFault.TheVariants.{Refused, Page, M
 use Rattle.st_plain.specs.Base.{Asked, Reaches}
 use Rattle.st_terms.specs.Looks.{AreAmong, AskedAt, Place, Answers, Looks, Concludes, Changes}
 use Rattle.st_terms.specs.Checked.{IsChecked, touched, places_of}
-use Rattle.st_terms.proofs.Looking.{among-itself, among-chain, among-left, among-right, among-both, at-more, at-looking, reaches-nothing}
+use Rattle.st_terms.proofs.Looking.{among-itself, among-chain, among-left, among-right, among-both, at-more, at-looking, reaches-nothing, looks-more, looks-then}
 use Rattle.st_terms.proofs.Stores.{term-among}
 use Rattle.st_terms.proofs.Admitted.{one, admitted-term}
 use Rattle.st_terms.specs.Routes.{AdmitsTerm, term_stores}
@@ -170,7 +171,7 @@ pub change-failed : {A C : Type 0} (p : Present) (st : Statement) (stands : Stat
 change-failed {C = C} p st stands asks got right right_then e m places firsts f = record {
   concludes = by e f.concludes;
   asked = subst (λ b. AskedAt asks b (touched p.state.schema p.variables st)) (sym m) f.asked;
-  reached = subst (λ ps. Reaches {A = C} (All (λ place. got place.entity place.number) ps) (Err e)) (sym places) (reaches-nothing (λ place. got place.entity place.number) (Err e));
+  reached = subst (λ ps. Reaches {A = C} (All (λ place. got place.entity place.number) ps) (Err e)) (sym places) (reaches-nothing {A = C} (λ place. got place.entity place.number) (Err e));
   first = inl (subst (All (λ place. got place.entity place.number)) (sym firsts) (All-nil (λ place. got place.entity place.number)));
 }
   where
@@ -244,3 +245,27 @@ selected-of p query es e = subst (AreOf p.state query) (sym e) (by (type_named p
             (one (λ y. (is_live s y ≡ true) × ((ty : ℕ) → type_named s.schema query.ty ≡ Some ty → isa s.schema y.ty ty ≡ true)) x
             (left (is_live s x) (isa s.schema x.ty t) here, λ ty m. subst (λ z. isa s.schema x.ty z ≡ true) (inside t ty (sym k ∙ m)) (right (is_live s x) (isa s.schema x.ty t) here)))
             (all-of xs (right (is_live s x && isa s.schema x.ty t) (list_all (λ y. is_live s y && isa s.schema y.ty t) xs) h))
+
+-- a query: the entities first, and then their lines
+module _ (p : Present) (query : Query) (stands : Type 0) (behind : State → Type 0) (first second whole : List Asked → Type 0) (got got_then : EntityId → ℕ → Type 0) (entities slice : List EntityId)
+    (on : (f g : List Asked) → first f → second g → whole (f ++ g)) (stay : (e : EntityId) (n : ℕ) → got e n → got_then e n) (same : slice ≡ entities)
+    (found : Looks stands first got (λ es. es ≡ selected p.state p.variables query) (touched p.state.schema p.variables (ForEach query)) [] (Ok entities)) where
+  abbrev all : List ℕ
+  all = touched p.state.schema p.variables (ForEach query)
+
+  abbrev of : AreOf p.state query slice
+  of = selected-of p query slice (same ∙ found.answers.0)
+
+  both-looked : {C : Type 0} (right : C → Type 0) (r : Result C BaseFault) → Looks (behind p.state) second got_then right all [] r → Looks (behind p.state) whole got_then right all [] r
+  both-looked right r f =
+      looks-more (behind p.state) whole got_then right (all ++ all) all [] r (among-both all all all (among-itself all) (among-itself all))
+      (looks-then stands (behind p.state) first second whole got got_then (λ es. es ≡ selected p.state p.variables query) right all all [] [] entities r on stay found f)
+
+  pub query-failed : {C D : Type 0} (right : C → Type 0) (right_then : D → Type 0) (e : BaseFault) → (stands → AreOf p.state query slice → Looks (behind p.state) second got_then right all [] (Err e)) → Steps p (ForEach query) behind whole got_then right_then (Err e)
+  query-failed right right_then e f = look-failed p (ForEach query) behind whole got_then right right_then all [] e (among-itself all) (both-looked right (Err e) (f found.answers.1 of))
+
+  pub query-answered : IsChecked p (ForEach query) → (lines : List (List ℕ)) (o : Outcome) → o ≡ record { lines = lines; bound = None } → (stands → AreOf p.state query slice → Looks (behind p.state) second got_then (λ ls. ls ≡ query_tails p query slice) all [] (Ok lines))
+      → Steps p (ForEach query) behind whole got_then (IsOutcome p (ForEach query)) (Ok o)
+  query-answered checked lines o is f =
+      look-answered p (ForEach query) behind whole got_then (λ ls. ls ≡ query_tails p query slice) (IsOutcome p (ForEach query)) all lines o (query-free p query checked) refl (among-itself all)
+      (λ e. subst (IsOutcome p (ForEach query)) (sym is) (e ∙ ap (query_tails p query) (same ∙ found.answers.0), refl)) (both-looked (λ ls. ls ≡ query_tails p query slice) (Ok lines) (f found.answers.1 of))

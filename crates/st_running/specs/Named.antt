@@ -4,7 +4,6 @@ use Rattle.st_values.specs.declared.value.EntityId.{EntityId}
 use Rattle.st_lattice.specs.declared.stores.StoreKind.TheVariants.{Extent}
 use Rattle.st_lattice.specs.Outline.{Outline}
 use Rattle.st_lattice.specs.Stores.{store}
-use Rattle.st_query.specs.declared.query.Query.{Query}
 use Rattle.st_query.specs.declared.statement.Statement.{Statement}
 use Rattle.st_query.specs.declared.statement.Statement.TheVariants.{ForEach, Abort}
 use Rattle.st_query.specs.declared.term.Term.{Term}

@@ -3,7 +3,7 @@ use Rattle.std.specs.Prelude.{◌≡◌, ◌⊎◌, ℕ, Bool, true, false, List
 use Rattle.st_values.specs.declared.value.EntityId.{EntityId}
 use Rattle.st_lattice.specs.Called.{called}
 use Rattle.st_query.specs.declared.statement.Statement.{Statement}
-use Rattle.st_query.specs.declared.statement.Statement.TheVariants.{Make, Set, Add, Take, Delete, Find, Ensure, Let, Print, ForEach, Abort}
+use Rattle.st_query.specs.declared.statement.Statement.TheVariants.{Make, Set, Add, Take, Delete, Find, Ensure, Let}
 use Rattle.st_values.specs.declared.value.Value.{Value}
 use Rattle.st_query.specs.Terms.{bind}
 use Rattle.st_running.specs.declared.outcome.Outcome.{Outcome}

@@ -1,5 +1,7 @@
 //! What is checked before a statement is run.
-ghost use Rattle.std.specs.Prelude.{◌≡◌, [], flat_map, IfOk};
+ghost use Rattle.std.specs.Prelude.{◌≡◌, [], flat_map, Some, None, IfOk};
+ghost use Rattle.st_state.specs.declared.refusal.Refusal.{Refusal};
+ghost use Rattle.st_plain.specs.Base.{behind};
 ghost use Rattle.st_query.specs.Written.{starts_of};
 ghost use Rattle.st_query.specs.Footprint.{start_stores};
 ghost use Rattle.st_state.specs.State.{State};
@@ -20,13 +22,15 @@ fn is_abort(statement: &Statement) -> bool
     matches!(statement, Statement::Abort)
 }
 
+#[tactic(auto, using(crate::proofs::Checks::text_own))]
 fn text_refusal(
     alloc: Global,
     schema: &Schema,
     variables: &[Variable],
     statement: &Statement,
 ) -> Result<Option<Refusal>, AllocError>
-    ensures { IfOk result (λ refused. refused ≡ text_refusal schema.now variables.now statement.now) }
+    ensures value { IfOk result (λ refused. refused ≡ text_refusal schema.now variables.now statement.now) }
+    ensures own { IfOk result (λ refused. (r : Refusal) → refused ≡ Some r → behind r ≡ None) }
 {
     if is_abort(statement) {
         return Ok(Some(Refusal::Aborted));
@@ -46,6 +50,7 @@ pub fn checks_refused<B: Base>(
     ensures looks { (w : B.Witness) (s : State) → B.agrees base.new w → B.stands base.old w s →
         Looks (B.stands base.new w s) (B.asks base.old base.new w) (B.reached base.new w) (λ refused. refused ≡ checks (present s variables.now) statement.now)
         (flat_map (start_stores s.schema variables.now) (starts_of statement.now)) [] result }
+    ensures own { IfOk result (λ refused. (r : Refusal) → refused ≡ Some r → behind r ≡ None) }
     ensures keeps { Keeps (B.follows base.old base.new) (B.met base.old) (B.met base.new) result }
 {
     let refused = text_refusal(alloc, schema, variables, statement)?;

@@ -6,5 +6,6 @@ pub mod check;
 pub mod live;
 mod named;
 mod outcome;
+pub mod run;
 
 pub use outcome::Outcome;

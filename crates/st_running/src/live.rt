@@ -1,9 +1,11 @@
 //! Entities that are not live.
-ghost use Rattle.std.specs.Prelude.{◌≡◌, [], ◌∷◌, not, find, flat_map};
+ghost use Rattle.std.specs.Prelude.{◌≡◌, [], ◌∷◌, not, find, flat_map, Some, None, IfOk};
 ghost use Rattle.st_lattice.specs.declared.stores.StoreKind.TheVariants.{Extent};
 ghost use Rattle.st_lattice.specs.Stores.{store};
 ghost use Rattle.st_state.specs.State.{State, is_live};
 ghost use Rattle.st_meaning.specs.Rules.{rule_5};
+ghost use Rattle.st_state.specs.declared.refusal.Refusal.{Refusal};
+ghost use Rattle.st_plain.specs.Base.{behind};
 ghost use Rattle.st_terms.specs.Looks.{Looks, Keeps};
 ghost use Rattle.st_terms.specs.Checked.{present};
 ghost use Rattle.st_running.specs.Named.{extents_of, dead_refusal};
@@ -43,8 +45,10 @@ fn first_dead<B: Base>(
     Ok(None)
 }
 
+#[tactic(auto, using(crate::proofs::Checks::dead_own))]
 fn dead_refusal(dead: Option<EntityId>) -> Option<Refusal>
-    ensures { result ≡ dead_refusal dead }
+    ensures value { result ≡ dead_refusal dead }
+    ensures own { (r : Refusal) → result ≡ Some r → behind r ≡ None }
 {
     match dead {
         Some(entity) => Some(Refusal::NoSuchEntity { entity }),
@@ -64,6 +68,7 @@ pub fn dead_refused<B: Base>(
     ensures looks { (w : B.Witness) (s : State) → B.agrees base.new w → B.stands base.old w s →
         Looks (B.stands base.new w s) (B.asks base.old base.new w) (B.reached base.new w) (λ refused. refused ≡ rule_5 (present s variables.now) statement.now)
         (flat_map (start_stores s.schema variables.now) (starts_of statement.now)) [] result }
+    ensures own { IfOk result (λ refused. (r : Refusal) → refused ≡ Some r → behind r ≡ None) }
     ensures keeps { Keeps (B.follows base.old base.new) (B.met base.old) (B.met base.new) result }
 {
     let entities = statement_names(alloc, schema, variables, statement)?;

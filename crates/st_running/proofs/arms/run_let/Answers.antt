@@ -1,9 +1,8 @@
-use Rattle.std.proofs.Common.{◌≡◌, refl, ap}
+use Rattle.std.proofs.Common.{refl}
 use Rattle.st_query.specs.declared.statement.Statement.TheVariants.{Let}
-use Rattle.st_query.specs.Terms.{bind}
 use Rattle.st_terms.specs.Checked.{present}
 use Rattle.st_terms.proofs.Loops.{handed}
-use Rattle.st_running.specs.Steps.{Steps, IsOutcome}
+use Rattle.st_running.specs.Steps.{Steps}
 use Rattle.st_running.proofs.Stepping.{look-failed, look-answered, let-free, let-admitted, let-among, let-outcome}
 use Rattle.st_terms.proofs.Looking.{no-places}
 use Rattle.st_running.proofs.arms.run_let.Goals as goal

@@ -1,4 +1,4 @@
-use Rattle.std.proofs.Common.{◌≡◌, refl}
+use Rattle.std.proofs.Common.{refl}
 use Rattle.st_query.specs.declared.statement.Statement.TheVariants.{Print}
 use Rattle.st_plain.specs.declared.fault.BaseFault.TheVariants.{Memory}
 use Rattle.st_terms.specs.Checked.{present}

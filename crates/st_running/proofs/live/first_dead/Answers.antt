@@ -1,4 +1,4 @@
-use Rattle.std.proofs.Common.{◌≡◌, ◌<◌, length, Ok, arith}
+use Rattle.std.proofs.Common.{◌<◌, length, Ok, arith}
 use Rattle.st_terms.specs.Looks.{Looks}
 use Rattle.st_terms.proofs.Looking.{keeps-then, keeps-as}
 use Rattle.st_terms.proofs.Loops.{handed, read-at}

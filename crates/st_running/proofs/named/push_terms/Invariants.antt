@@ -1,7 +1,5 @@
-use Rattle.std.proofs.Common.{◌≡◌, ◌++◌, map, take, None}
-use Rattle.std.specs.Prelude.{flat_map}
+use Rattle.std.proofs.Common.{◌≡◌, ◌++◌, take}
 use Rattle.std.specs.Option.{option_copied}
-use Rattle.st_query.specs.Written.{condition_terms}
 use Rattle.st_running.specs.Named.{terms_name}
 use Rattle.st_running.proofs.named.push_terms.Given as goal
 
