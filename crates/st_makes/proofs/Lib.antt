@@ -1,0 +1,12 @@
+pub mod Holding
+pub mod Turns
+pub mod Finds
+pub mod Gives
+pub mod Sets
+pub mod Shares
+pub mod Checked
+pub mod Fillings
+pub mod Celled
+pub mod Makes
+pub mod Fresh
+pub mod Ensures
