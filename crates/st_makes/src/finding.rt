@@ -1,8 +1,5 @@
 //! The statement that finds an entity.
 ghost use Rattle.std.specs.Prelude.{◌≡◌, ℕ, List, [], ◌++◌};
-ghost use Rattle.std.specs.Option.{option_copied};
-ghost use Rattle.st_lattice.specs.Outline.{type_named};
-ghost use Rattle.st_lattice.specs.Lattice.{attribute_of};
 ghost use Rattle.st_query.specs.declared.statement.Statement.TheVariants.{Find};
 ghost use Rattle.st_query.specs.Terms.{bind};
 ghost use Rattle.st_state.specs.State.{State};

@@ -1,13 +1,9 @@
 //! Who has a value of an attribute.
 ghost use Rattle.std.specs.Prelude.{◌≡◌, [], find};
-ghost use Rattle.std.specs.Option.{option_copied};
-ghost use Rattle.st_values.specs.Order.{same_entity};
 ghost use Rattle.st_lattice.specs.Lattice.{isa};
 ghost use Rattle.st_state.specs.State.{State, turned};
 ghost use Rattle.st_state.specs.Legal.{IsNearlyLegal};
-ghost use Rattle.st_state.specs.Bases.{is_other};
 ghost use Rattle.st_state.specs.Calls.{HasAttribute, CanHold};
-ghost use Rattle.st_meaning.specs.Selection.{is_null};
 ghost use Rattle.st_meaning.specs.Statements.{holder};
 ghost use Rattle.st_terms.specs.Looks.{Looks, Keeps};
 ghost use Rattle.st_makes.specs.Makes.{may_have, IsMeant, found_stores};

@@ -1,13 +1,11 @@
 //! The statement that makes an entity, and how an entity gets its values.
-ghost use Rattle.std.specs.Prelude.{◌≡◌, ℕ, ◌<◌, List, None, [], ◌∷◌, ◌++◌, map, flat_map, length, All, ⊤};
+ghost use Rattle.std.specs.Prelude.{◌≡◌, ℕ, ◌<◌, List, None, [], ◌∷◌, ◌++◌, flat_map, length, All, ⊤};
 ghost use Rattle.st_values.specs.declared.value.Value.TheVariants.{Entity};
 ghost use Rattle.st_lattice.specs.declared.stores.StoreKind.TheVariants.{Extent};
-ghost use Rattle.st_lattice.specs.Stores.{store, aside};
+ghost use Rattle.st_lattice.specs.Stores.{store};
 ghost use Rattle.st_query.specs.declared.statement.Statement.TheVariants.{Make};
 ghost use Rattle.st_query.specs.Terms.{bind};
 ghost use Rattle.st_state.specs.State.{State, next_entity, entity_made, attribute_set, member_added};
-ghost use Rattle.st_state.specs.Legal.{IsNearlyLegal};
-ghost use Rattle.st_state.specs.Refusals.{first_of};
 ghost use Rattle.st_state.specs.Bases.{spent};
 ghost use Rattle.st_state.specs.Calls.{Set, Add, Admits, due, changed_stores};
 ghost use Rattle.st_meaning.specs.Statements.{does};

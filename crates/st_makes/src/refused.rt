@@ -1,5 +1,5 @@
 //! The rules on what an entity is to get: 8, then 3, then 4, each for all of it.
-ghost use Rattle.std.specs.Prelude.{◌≡◌, ℕ, [], ◌∷◌, map, flat_map, find, All, IfOk};
+ghost use Rattle.std.specs.Prelude.{◌≡◌, [], ◌∷◌, map, flat_map, find, All, IfOk};
 ghost use Rattle.st_lattice.specs.Outline.{type_name, attribute_name};
 ghost use Rattle.st_lattice.specs.Stores.{aside};
 ghost use Rattle.st_state.specs.State.{State, turned};
