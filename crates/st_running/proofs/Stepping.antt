@@ -1,7 +1,7 @@
 -- What a statement gives, from what its calls give.
 use Rattle.std.proofs.Common.{◌≡◌, ℕ, Bool, true, false, List, [], ◌∷◌, Option, Some, None, Result, Ok, Err, refl, sym, ◌∙◌, ap, subst}
-use Rattle.std.proofs.Common.{inl, inr, append-nil, true≢false}
-use Rattle.std.specs.Prelude.{◌++◌, ◌&&◌, not, map, filter, flat_map, All}
+use Rattle.std.proofs.Common.{inl, inr, append-nil, true≢false, get_or, length, arith, ◌<◌}
+use Rattle.std.specs.Prelude.{◌++◌, ◌&&◌, ◌+◌, zero, suc, slice_get, IsTrue, not, map, filter, flat_map, All}
 use Rattle.std.specs.List.{list_all, list_any}
 use Rattle.std.proofs.lemmas.List.Elements.{All-nil, All-append}
 use Rattle.st_values.specs.declared.value.EntityId.{EntityId}
@@ -21,10 +21,12 @@ use Rattle.st_query.specs.declared.kind.Expected.TheVariants.{Anything, AnyValue
 use Rattle.st_query.specs.declared.term.Term.{Term}
 use Rattle.st_query.specs.Kinds.{known}
 use Rattle.st_query.specs.Ways.{Start, way}
-use Rattle.st_query.specs.Written.{terms_of, starts_of}
+use Rattle.st_query.specs.Written.{is_written, terms_of, starts_of}
+use Rattle.st_query.specs.declared.term.Variable.{Variable}
 use Rattle.st_query.specs.Footprint.{start_stores, feature_stores, path_stores, effect_stores}
 use Rattle.st_lattice.specs.Called.{called}
 use Rattle.st_state.specs.declared.refusal.Refusal.{Refusal}
+use Rattle.st_state.specs.declared.refusal.Refusal.TheVariants.{UnknownName, WrongType, NullNotAllowed, NotUnique, NoSuchEntity, StillNeeded, NotASet, TextTooLong, NumbersSpent, Aborted, NullEntity, TooManyPages, Full}
 use Rattle.st_state.specs.State.{State, is_live, entities_of}
 use Rattle.st_state.specs.Legal.{IsNearlyLegal}
 use Rattle.st_state.specs.Refusals.{first_of}
@@ -39,13 +41,14 @@ use Rattle.st_plain.specs.declared.fault.BaseFault.{BaseFault}
 use Rattle.st_plain.specs.declared.fault.BaseFault.TheVariants.{Refused, Page, Memory}
 use Rattle.st_plain.specs.Base.{Asked, Reaches}
 use Rattle.st_terms.specs.Looks.{AreAmong, AskedAt, Place, Answers, Looks, Concludes, Changes}
-use Rattle.st_terms.specs.Checked.{IsChecked, touched, places_of}
+use Rattle.st_terms.specs.Checked.{present, IsChecked, touched, places_of}
 use Rattle.st_terms.proofs.Looking.{among-itself, among-chain, among-left, among-right, among-both, at-more, at-looking, reaches-nothing, looks-more, looks-then}
 use Rattle.st_terms.proofs.Stores.{term-among}
 use Rattle.st_terms.proofs.Admitted.{one, admitted-term}
 use Rattle.st_terms.specs.Routes.{AdmitsTerm, term_stores}
 use Rattle.st_running.specs.Steps.{may_put, first_place, Steps, bound_by, IsOutcome}
 use Rattle.st_running.specs.declared.outcome.Outcome.{Outcome}
+use Rattle.st_running.specs.Ran.{Ran, IsOnward}
 use Rattle.st_values.specs.declared.value.Value.{Value}
 use Rattle.st_query.specs.Terms.{bind}
 
@@ -269,3 +272,73 @@ module _ (p : Present) (query : Query) (stands : Type 0) (behind : State → Typ
   query-answered checked lines o is f =
       look-answered p (ForEach query) behind whole got_then (λ ls. ls ≡ query_tails p query slice) (IsOutcome p (ForEach query)) all lines o (query-free p query checked) refl (among-itself all)
       (λ e. subst (IsOutcome p (ForEach query)) (sym is) (e ∙ ap (query_tails p query) (same ∙ found.answers.0), refl)) (both-looked (λ ls. ls ≡ query_tails p query slice) (Ok lines) (f found.answers.1 of))
+
+-- ---- what is done behind a statement
+
+pub step-failed : {A C : Type 0} (p : Present) (st : Statement) (stands : State → Type 0) (asks : List Asked → Type 0) (got : EntityId → ℕ → Type 0) (right : A → Type 0) (right_then : C → Type 0) (e : BaseFault)
+    → Steps p st stands asks got right (Err e) → Steps p st stands asks got right_then (Err e)
+step-failed {A = A} {C = C} p st stands asks got right right_then e f = record { concludes = by e f.concludes; asked = f.asked; reached = reaches e f.reached; first = f.first }
+  where
+    by : (x : BaseFault) → Concludes (refusal p st) stands p.state (does p st).state right (Err x) → Concludes {A = C} (refusal p st) stands p.state (does p st).state right_then (Err x)
+    by (Refused r) h = h
+    by (Page fault) h = h
+    by Memory h = tt
+
+    reaches : (x : BaseFault) → Reaches {A = A} (All (λ place. got place.entity place.number) (places_of p st)) (Err x) → Reaches {A = C} (All (λ place. got place.entity place.number) (places_of p st)) (Err x)
+    reaches (Refused (UnknownName n)) h = tt
+    reaches (Refused WrongType) h = tt
+    reaches (Refused (NullNotAllowed n)) h = tt
+    reaches (Refused (NotUnique n x)) h = tt
+    reaches (Refused (NoSuchEntity x)) h = tt
+    reaches (Refused (StillNeeded x n)) h = tt
+    reaches (Refused (NotASet n)) h = tt
+    reaches (Refused (TextTooLong a b)) h = tt
+    reaches (Refused (NumbersSpent n)) h = tt
+    reaches (Refused Aborted) h = tt
+    reaches (Refused NullEntity) h = tt
+    reaches (Refused (TooManyPages n)) h = h
+    reaches (Refused (Full n)) h = h
+    reaches (Page fault) h = tt
+    reaches Memory h = tt
+
+pub step-starved : {A C : Type 0} (p : Present) (st : Statement) (stands : State → Type 0) (asks : List Asked → Type 0) (got : EntityId → ℕ → Type 0) (right : A → Type 0) (right_then : C → Type 0) (r : Result A BaseFault)
+    → Steps p st stands asks got right r → Steps p st stands asks got right_then (Err Memory)
+step-starved p st stands asks got right right_then r f = record { concludes = tt; asked = f.asked; reached = tt; first = f.first }
+
+pub step-answered : {A C : Type 0} (p : Present) (st : Statement) (stands : State → Type 0) (asks : List Asked → Type 0) (got : EntityId → ℕ → Type 0) (right : A → Type 0) (right_then : C → Type 0) (x : A) (y : C)
+    → (right x → right_then y) → Steps p st stands asks got right (Ok x) → Steps p st stands asks got right_then (Ok y)
+step-answered p st stands asks got right right_then x y so f = record { concludes = (f.concludes.0, so f.concludes.1, f.concludes.2); asked = f.asked; reached = f.reached; first = f.first }
+
+-- a statement that is found by its place
+pub is-next : (sts : List Statement) (i : ℕ) (x d : Statement) → x ≡ get_or sts i d → i < length sts → (y : Statement) → slice_get sts i ≡ Some y → x ≡ y
+is-next [] i x d e h y f = absurd (omega (arith, h))
+is-next (z ∷ zs) zero x d e h y f = e ∙ inside f
+  where
+    inside : Some z ≡ Some y → z ≡ y
+    inside k = cc
+is-next (z ∷ zs) (suc i) x d e h y f = is-next zs i x d e (omega (arith, h)) y f
+
+pub next-is : (sts others : List Statement) (i j : ℕ) (x : Statement) → sts ≡ others → i ≡ j → x ≡ get_or sts i x → j < length others → (y : Statement) → slice_get others j ≡ Some y → x ≡ y
+next-is sts others i j x e f h within y found = is-next others j x x (h ∙ ap (λ n. get_or sts n x) f ∙ ap (λ ys. get_or ys j x) e) within y found
+
+-- what is said of a statement that was run, said of the one that was next
+pub said-of : (s : State) (vs variables : List Variable) (x y : Statement) (stands : State → Type 0) (asks : List Asked → Type 0) (got : EntityId → ℕ → Type 0) (r : Result Outcome BaseFault) → vs ≡ variables → x ≡ y → IsTrue (is_written y)
+    → (IsTrue (is_written x) → Steps (present s vs) x stands asks got (IsOutcome (present s vs) x) r) → Steps (present s variables) y stands asks got (IsOutcome (present s variables) y) r
+said-of s vs variables x y stands asks got r e f written h =
+    subst (λ us. IsTrue (is_written y) → Steps (present s us) y stands asks got (IsOutcome (present s us) y) r) e
+    (subst (λ z. IsTrue (is_written z) → Steps (present s vs) z stands asks got (IsOutcome (present s vs) z) r) f h) written
+
+pub ran-built : (old : Ran) (x st : Statement) (o : Outcome) (sts : List Statement) (i : ℕ) (vs new_vs : List Variable) (lines new_lines : List (List ℕ)) → record { statements = sts; ran = i; variables = vs; answers = lines } ≡ old → x ≡ st
+    → new_vs ≡ bound_by x o.bound vs → new_lines ≡ lines ++ o.lines
+    → record { statements = sts; ran = i + 1; variables = new_vs; answers = new_lines } ≡ record old { ran = old.ran + 1; variables = bound_by st o.bound old.variables; answers = old.answers ++ o.lines }
+ran-built old x st o sts i vs new_vs lines new_lines e f g h =
+    subst (λ (r : Ran). record { statements = sts; ran = i + 1; variables = new_vs; answers = new_lines } ≡ record r { ran = r.ran + 1; variables = bound_by st o.bound r.variables; answers = r.answers ++ o.lines }) e
+    (ap (λ us. record { statements = sts; ran = i + 1; variables = us; answers = new_lines }) (g ∙ ap (λ z. bound_by z o.bound vs) f)
+    ∙ ap (λ ls. record { statements = sts; ran = i + 1; variables = bound_by st o.bound vs; answers = ls }) h)
+
+pub onward-said : (p : Present) (st : Statement) (old new : Ran) (o : Outcome) (lines : List (List ℕ)) → p.variables ≡ old.variables → lines ≡ o.lines → new ≡ record old { ran = old.ran + 1; variables = bound_by st o.bound old.variables; answers = old.answers ++ o.lines } → IsOutcome p st o → IsOnward p st old new lines
+onward-said p st old new o lines same is e h = (
+  is ∙ h.0,
+  e ∙ ap (λ vs. record old { ran = old.ran + 1; variables = vs; answers = old.answers ++ o.lines }) (ap (bound_by st o.bound) (sym same) ∙ h.1)
+      ∙ ap (λ ls. record old { ran = old.ran + 1; variables = (does p st).variables; answers = old.answers ++ ls }) h.0,
+)

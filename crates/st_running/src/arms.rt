@@ -48,7 +48,7 @@ fn printed(alloc: Global, line: Letters) -> Result<Outcome, AllocError>
     Ok(Outcome { lines, bound: None })
 }
 
-pub fn run_let<B: Base>(
+pub(crate) fn run_let<B: Base>(
     base: &mut B,
     alloc: Global,
     schema: &Schema,
@@ -65,7 +65,7 @@ pub fn run_let<B: Base>(
     Ok(bound(alloc, value))
 }
 
-pub fn run_print<B: Base>(
+pub(crate) fn run_print<B: Base>(
     base: &mut B,
     alloc: Global,
     schema: &Schema,
@@ -82,7 +82,7 @@ pub fn run_print<B: Base>(
     Ok(printed(alloc, line)?)
 }
 
-pub fn run_set<B: Base>(
+pub(crate) fn run_set<B: Base>(
     base: &mut B,
     alloc: Global,
     schema: &Schema,
@@ -101,7 +101,7 @@ pub fn run_set<B: Base>(
     Ok(nothing(alloc))
 }
 
-pub fn run_add<B: Base>(
+pub(crate) fn run_add<B: Base>(
     base: &mut B,
     alloc: Global,
     schema: &Schema,
@@ -120,7 +120,7 @@ pub fn run_add<B: Base>(
     Ok(nothing(alloc))
 }
 
-pub fn run_take<B: Base>(
+pub(crate) fn run_take<B: Base>(
     base: &mut B,
     alloc: Global,
     schema: &Schema,
@@ -139,7 +139,7 @@ pub fn run_take<B: Base>(
     Ok(nothing(alloc))
 }
 
-pub fn run_delete<B: Base>(
+pub(crate) fn run_delete<B: Base>(
     base: &mut B,
     alloc: Global,
     schema: &Schema,
@@ -156,7 +156,7 @@ pub fn run_delete<B: Base>(
     Ok(nothing(alloc))
 }
 
-pub fn run_find<B: Base>(
+pub(crate) fn run_find<B: Base>(
     base: &mut B,
     alloc: Global,
     schema: &Schema,
@@ -174,7 +174,7 @@ pub fn run_find<B: Base>(
     Ok(bound(alloc, found))
 }
 
-pub fn run_make<B: Base>(
+pub(crate) fn run_make<B: Base>(
     base: &mut B,
     alloc: Global,
     schema: &Schema,
@@ -191,7 +191,7 @@ pub fn run_make<B: Base>(
     Ok(bound(alloc, Value::Entity(made)))
 }
 
-pub fn run_ensure<B: Base>(
+pub(crate) fn run_ensure<B: Base>(
     base: &mut B,
     alloc: Global,
     schema: &Schema,
@@ -208,7 +208,7 @@ pub fn run_ensure<B: Base>(
     Ok(bound(alloc, Value::Entity(ensured)))
 }
 
-pub fn run_for_each<E: Engine>(
+pub(crate) fn run_for_each<E: Engine>(
     engine: &mut E,
     alloc: Global,
     schema: &Schema,

@@ -39,7 +39,7 @@ fn text_refusal(
 }
 
 /// The refusal of a statement by the rules that come before anything is evaluated: 10; 1, 2 and 7; 5.
-pub fn checks_refused<B: Base>(
+pub(crate) fn checks_refused<B: Base>(
     base: &mut B,
     alloc: Global,
     schema: &Schema,

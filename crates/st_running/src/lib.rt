@@ -1,11 +1,16 @@
 //! Running transactions, over any base that selects entities.
 #![tactic(auto)]
 
-pub mod arms;
-pub mod check;
-pub mod live;
+mod arms;
+mod check;
+mod live;
 mod named;
 mod outcome;
-pub mod run;
+mod run;
+mod running;
 
 pub use outcome::Outcome;
+pub use run::run as run_statement;
+pub use running::Running;
+pub use st_plain::BaseFault as StepFault;
+pub use st_select::Engine;

@@ -57,7 +57,7 @@ fn dead_refusal(dead: Option<EntityId>) -> Option<Refusal>
 }
 
 /// Rule 5: a literal or a variable of a statement is an entity that is not live; the first in text order.
-pub fn dead_refused<B: Base>(
+pub(crate) fn dead_refused<B: Base>(
     base: &mut B,
     alloc: Global,
     schema: &Schema,
