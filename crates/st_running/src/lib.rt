@@ -9,8 +9,7 @@ mod outcome;
 mod run;
 mod running;
 
-pub use outcome::Outcome;
-pub use run::run as run_statement;
+pub(crate) use outcome::Outcome;
 pub use running::Running;
 pub use st_plain::BaseFault as StepFault;
 pub use st_select::Engine;

@@ -94,7 +94,7 @@ fn run_checked<E: Engine>(
 
 /// Runs a statement: what it answers, and the value that it binds its variable to. The rules are asked in their order, and
 /// all of them before anything is changed.
-pub fn run<E: Engine>(
+pub(crate) fn run<E: Engine>(
     engine: &mut E,
     alloc: Global,
     schema: &Schema,
