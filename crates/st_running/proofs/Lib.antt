@@ -1,5 +1,6 @@
 mod Checks
 mod Dead
 mod Fifth
+mod Footprints
 mod Starts
 mod Stepping

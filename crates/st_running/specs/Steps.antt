@@ -1,6 +1,10 @@
 -- What a statement gives that is run over a base.
-use Rattle.std.specs.Prelude.{◌≡◌, ◌⊎◌, ℕ, Bool, true, false, List, [], Option, Some, None, Result, All}
+use Rattle.std.specs.Prelude.{◌≡◌, ◌⊎◌, ◌==◌, ◌||◌, ℕ, Bool, true, false, not, List, [], Option, Some, None, Result, All}
 use Rattle.st_values.specs.declared.value.EntityId.{EntityId}
+use Rattle.std.specs.List.{list_any}
+use Rattle.st_lattice.specs.Outline.{Outline}
+use Rattle.st_lattice.specs.Stores.{stores_of}
+use Rattle.st_query.specs.Footprint.{footprint}
 use Rattle.st_lattice.specs.Called.{called}
 use Rattle.st_query.specs.declared.statement.Statement.{Statement}
 use Rattle.st_query.specs.declared.statement.Statement.TheVariants.{Make, Set, Add, Take, Delete, Find, Ensure, Let}
@@ -53,3 +57,8 @@ bound_by _ (Some v) variables = variables
 -- what a statement answers, and the value that it binds its variable to
 abbrev pub IsOutcome : Present → Statement → Outcome → Type 0
 IsOutcome p statement outcome = (outcome.lines ≡ answers p statement) × (bound_by statement outcome.bound p.variables ≡ (does p statement).variables)
+
+-- whether a store is of the footprint of a statement, if the schema has it
+abbrev pub is_in_footprint : Outline → List Variable → Statement → ℕ → Bool
+is_in_footprint schema variables statement number =
+    not (list_any (λ other. other == number) (stores_of schema)) || list_any (λ other. other == number) (footprint schema variables statement)
