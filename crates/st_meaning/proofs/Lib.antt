@@ -8,5 +8,4 @@ pub mod Legality
 pub mod Cells
 pub mod Making
 pub mod Whole
-mod Unrefused
 mod Spent

@@ -8,8 +8,7 @@ use Rattle.st_state.specs.declared.refusal.Refusal.{Refusal}
 use Rattle.st_state.specs.declared.refusal.Refusal.TheVariants.{UnknownName, WrongType, NullNotAllowed, NotUnique, NoSuchEntity, StillNeeded, NotASet, TextTooLong, NumbersSpent, Aborted, NullEntity, TooManyPages, Full}
 use Rattle.st_state.specs.Refusals.{rule_number}
 use Rattle.st_state.specs.State.{State, empty_state}
-use Rattle.st_meaning.specs.Statements.{Present, does, answers}
-use Rattle.st_meaning.specs.Runs.{RefusedAt, Run, begun, runs}
+use Rattle.st_meaning.specs.Runs.{RefusedAt, Run, runs}
 
 -- the fields of a refusal, each behind a space; names stand without quotes
 abbrev pub printed_fields : List (List ℕ) → Refusal → List ℕ
@@ -41,10 +40,18 @@ answer_lines turn client transaction [] = []
 answer_lines turn client transaction (answers ∷ others) =
     flat_map (line turn client transaction) answers ++ answer_lines (turn + 1) client transaction others
 
+-- a commit, by its number
+abbrev pub commit_tail : ℕ → List ℕ
+commit_tail number = codes "commit " ++ decimal number
+
+-- a refusal in the state behind so many commits
+abbrev pub refused_tail : List (List ℕ) → ℕ → Refusal → List ℕ
+refused_tail names commits refusal = codes "refused " ++ decimal commits ++ 32 ∷ printed_refusal names refusal
+
 -- how a transaction ends behind so many commits: with the next one, or with its refusal in the state after them
 abbrev pub end_tail : List (List ℕ) → ℕ → Option RefusedAt → List ℕ
-end_tail names commits None = codes "commit " ++ decimal (commits + 1)
-end_tail names commits (Some r) = codes "refused " ++ decimal commits ++ 32 ∷ printed_refusal names r.refusal
+end_tail names commits None = commit_tail (commits + 1)
+end_tail names commits (Some r) = refused_tail names commits r.refusal
 
 abbrev pub commits_after : ℕ → Option RefusedAt → ℕ
 commits_after commits None = commits + 1
@@ -71,20 +78,3 @@ client_lines state script = lines_from 1 1 1 0 state script
 -- what one transaction prints that runs by itself over an empty database
 abbrev pub output_of : Outline → List Statement → List ℕ
 output_of schema statements = client_lines (empty_state schema) (statements ∷ [])
-
--- the lines of a statement in its turn, where client 1 runs its first transaction and no rule refuses the statement
-abbrev pub turn_lines : ℕ → Present → Statement → List ℕ
-turn_lines turn p statement = flat_map (line turn 1 1) (answers p statement)
-
--- the lines of statements from a turn on, of which no rule refuses one
-abbrev pub unrefused_lines : ℕ → Present → List Statement → List ℕ
-unrefused_lines turn p [] = []
-unrefused_lines turn p (statement ∷ statements) = turn_lines turn p statement ++ unrefused_lines (turn + 1) (does p statement) statements
-
--- the line of the first commit
-abbrev pub commit_line : ℕ → List ℕ
-commit_line turn = line turn 1 1 (end_tail [] 0 None)
-
--- what one transaction prints that runs by itself over an empty database, where no rule refuses a statement of it
-unfoldable pub unrefused_output : Outline → List Statement → List ℕ
-unrefused_output schema statements = unrefused_lines 1 (begun (empty_state schema)) statements ++ commit_line (length statements + 1)

@@ -17,7 +17,6 @@ ghost use Rattle.st_state.specs.declared.refusal.Refusal.{Refusal};
 ghost use Rattle.st_state.specs.declared.refusal.Refusal.TheVariants.{NumbersSpent};
 ghost use Rattle.st_state.specs.Legal.{IsNearlyLegal, IsLegal};
 ghost use Rattle.st_state.specs.State.{State, empty_state, entity_made};
-ghost use Rattle.st_meaning.specs.Lines.{output_of, unrefused_output};
 ghost use Rattle.st_meaning.specs.Laws.{are_by, order_of_rules, IsFirst};
 ghost use Rattle.st_meaning.specs.Rules.{rules, refusal, spent_type};
 ghost use Rattle.st_meaning.specs.Runs.{RefusedAt, runs};
@@ -63,11 +62,4 @@ pub fn laws_of_states()
     ensures made { (state : State) (ty : ℕ) → IsNearlyLegal state → ty < length state.schema.names → IsNearlyLegal (entity_made state ty) }
     ensures statement { (p : Present) → IsLegal p.state → (s : Statement) → IsTrue (is_written s) → refusal p s ≡ None → IsLegal (does p s).state }
     ensures run { (state : State) (statements : List Statement) → IsLegal state → IsTrue (list_all is_written statements) → IsLegal (runs state statements).state }
-{}
-
-/// Where no rule refuses a statement, a transaction that runs by itself over an empty database prints the answers of its
-/// statements and that it committed.
-pub fn laws_of_lines()
-    ensures { (schema : Outline) (statements : List Statement) → (runs (empty_state schema) statements).refused ≡ None →
-        output_of schema statements ≡ unrefused_output schema statements }
 {}

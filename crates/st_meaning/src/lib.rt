@@ -9,7 +9,7 @@ mod rows;
 mod scripts;
 
 pub use footprints::{rows_of_footprints, rows_of_serials};
-pub use laws::{laws_of_lines, laws_of_orders, laws_of_refusals, laws_of_runs, laws_of_states};
+pub use laws::{laws_of_orders, laws_of_refusals, laws_of_runs, laws_of_states};
 pub use meaning::Meaning;
 pub use rows::worked_rows;
 pub use scripts::{

@@ -3,4 +3,3 @@ pub mod Terms
 pub mod Kinds
 pub mod Written
 pub mod Footprint
-pub mod Thin

@@ -12,5 +12,5 @@ mod value;
 pub use kind::{Expected, Sort, Typing};
 pub use query::{Condition, Conditions, Key, Keys, Query, Sign};
 pub use statement::{Cell, Cells, Script, Statement, Statements, Transaction};
-pub use term::{Literal, Term, Terms, Variable, Variables};
+pub use term::{Literal, Term, Terms, Variable};
 pub use value::{bind, literal_value, variable_value};

@@ -43,9 +43,6 @@ pub struct Variable {
     pub value: Value,
 }
 
-/// The variables of a transaction, each name once.
-pub type Variables = Items<Variable>;
-
 impl Duplicate for Literal {
     fn copy(&self, alloc: Global) -> Result<Literal, AllocError> {
         match self {

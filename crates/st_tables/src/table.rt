@@ -16,14 +16,18 @@ pub enum Table {
     Features,
     Attributes,
     Texts,
-    Refusals,
+    Faults,
     Programs,
+    Statements,
+    Queries,
+    Refusals,
+    Transactions,
     Failures,
     Words,
 }
 
 /// All tables, in the order of the layers.
-pub const TABLES: [Table; 12] = [
+pub const TABLES: [Table; 16] = [
     Table::Values,
     Table::Forms,
     Table::Schemas,
@@ -32,8 +36,12 @@ pub const TABLES: [Table; 12] = [
     Table::Features,
     Table::Attributes,
     Table::Texts,
-    Table::Refusals,
+    Table::Faults,
     Table::Programs,
+    Table::Statements,
+    Table::Queries,
+    Table::Refusals,
+    Table::Transactions,
     Table::Failures,
     Table::Words,
 ];
@@ -50,8 +58,12 @@ impl Table {
             Table::Features => "features.txt",
             Table::Attributes => "attributes.txt",
             Table::Texts => "texts.txt",
-            Table::Refusals => "refusals.txt",
+            Table::Faults => "faults.txt",
             Table::Programs => "programs.txt",
+            Table::Statements => "statements.txt",
+            Table::Queries => "queries.txt",
+            Table::Refusals => "refusals.txt",
+            Table::Transactions => "transactions.txt",
             Table::Failures => "failures.txt",
             Table::Words => "words.txt",
         }
@@ -72,7 +84,13 @@ impl Asks for Table {
                 &case.front,
                 Question::Attribute(case.text()),
             ),
-            Table::Texts | Table::Refusals | Table::Programs => tries::tried(alloc, case),
+            Table::Texts
+            | Table::Faults
+            | Table::Programs
+            | Table::Statements
+            | Table::Queries
+            | Table::Refusals
+            | Table::Transactions => tries::tried(alloc, case),
             Table::Failures => tries::failed(alloc, case),
             Table::Words => tries::commanded(alloc, case),
         }

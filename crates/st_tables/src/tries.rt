@@ -28,12 +28,12 @@ fn run(
     answer(alloc, status, sink.bytes())
 }
 
-/// A status and an output: its lines below the status where that is 0, else behind it.
+/// A status and an output: its lines below the status where that is 0 or 1, else behind it.
 fn answer(alloc: Global, status: Status, bytes: &[u8]) -> Result<String, AllocError> {
     let output = str::from_utf8(bytes).unwrap_or("bytes that are no UTF-8");
     let mut out = format!(in alloc; " {status}")?;
     match output.strip_suffix('\n') {
-        Some(lines) if status == 0 => push_lines(&mut out, lines)?,
+        Some(lines) if status < 2 => push_lines(&mut out, lines)?,
         Some(line) => {
             out.push(' ')?;
             out.push_str(line)?;

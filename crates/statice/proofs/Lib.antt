@@ -1,6 +1,5 @@
 mod OneAnswer
-mod Serials
-mod Running
 mod Taking
 mod Finding
 mod Legality
+mod Endings

@@ -1,11 +1,10 @@
 -- What a sink took, in one piece after another, and what a source gave.
 use Rattle.std.proofs.Common.{◌≡◌, inl, inr, ℕ, ◌+◌, ◌≤◌, List, [], ◌++◌, refl, length, take, Option, Some, None, arith}
 use Rattle.std.specs.Prelude.{IfSome}
-use Rattle.std.specs.Io.KnownBytes.{Consumes}
 use Rattle.std.proofs.KnownBytes.{Appends-trans}
 use Rattle.std.proofs.Math.Seq.{take-append-add}
 use Rattle.st_edge.specs.Faults.{Rose}
-use Rattle.st_edge.specs.States.{SourceState, SinkState, TakesAll, Takes}
+use Rattle.st_edge.specs.States.{SinkState, TakesAll, Takes}
 
 -- behind a front that went in
 pub takes_behind : (old mid new : SinkState) (front text : List ℕ) → TakesAll old mid front → old.faults ≤ mid.faults → mid.faults ≤ new.faults → Takes mid new text → Takes old new (front ++ text)
@@ -15,11 +14,6 @@ takes_behind old mid new front text first le up (inr (rose, (n, part))) =
   where
     after : (a b c : ℕ) → a ≤ b → Rose b c → Rose a c
     after a b c le rose = λ h. let r = rose h in omega arith
-
--- nothing was taken
-pub consumes_nothing : (left : Option (List ℕ)) → (read : List ℕ) × (length read ≤ 1048577) × Consumes left left read
-consumes_nothing None = ([], omega arith, tt)
-consumes_nothing (Some xs) = ([], omega arith, refl)
 
 -- some input is what a source gave
 pub some_input : (left : Option (List ℕ)) → (input : List ℕ) × IfSome left (λ bytes. input ≡ bytes)

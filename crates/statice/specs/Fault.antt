@@ -1,7 +1,7 @@
 -- The fault of an input that is no program, and the line that tells it.
 use Rattle.std.specs.Prelude.{◌≡◌, ℕ, List, [], ◌∷◌, ◌++◌, flat_map, codes, Option, Some, None, Result, Ok, Err}
 use Rattle.std.specs.Option.{option_map}
-use Rattle.std.specs.Fmt.{decimal}
+use Rattle.std.specs.Fmt.{decimal, signed_decimal}
 use Rattle.st_token.specs.declared.fault.SexpFault.{SexpFault}
 use Rattle.st_token.specs.declared.fault.SexpFault.TheVariants as text
 use Rattle.st_sexp.specs.declared.form.Form.{Form}
@@ -10,8 +10,9 @@ use Rattle.st_schema.specs.declared.fault.Counted.{Counted}
 use Rattle.st_schema.specs.declared.fault.Counted.TheVariants.{Types, Attributes}
 use Rattle.st_schema.specs.declared.fault.SchemaFault.{SchemaFault}
 use Rattle.st_schema.specs.declared.fault.SchemaFault.TheVariants as schema
-use Rattle.st_schema.specs.Written.{Reading}
-use Rattle.statice.specs.Form.{Program, program_in}
+use Rattle.st_statements.specs.declared.fault.Misread.{Misread}
+use Rattle.st_statements.specs.declared.fault.Misread.TheVariants as misread
+use Rattle.statice.specs.Form.{Program, Flaw, InSchema, InScript, program_in}
 use Rattle.statice.specs.Output.{fault_line}
 
 -- the number of a text's fault, and its place; want of memory is no fault of the text
@@ -48,13 +49,27 @@ schema_fault schema.Memory = None
 abbrev pub schema_line : ℕ × List (List ℕ) → List ℕ
 schema_line parts = fault_line (codes "schema " ++ decimal (parts.0) ++ flat_map (λ field. 32 ∷ field) (parts.1))
 
--- the line for what forms are: that of the schema's fault, or that of a script out of form; none of a program
-abbrev pub line_of : Reading (Option Program) → Option (List ℕ)
-line_of (Err fault) = option_map schema_line (schema_fault fault)
-line_of (Ok None) = Some (fault_line (codes "later"))
-line_of (Ok (Some program)) = None
+-- the number of how a script is misread, and what it tells, as it is printed
+abbrev pub script_fault : Misread → ℕ × List ℕ
+script_fault (misread.Form place) = (1, decimal place)
+script_fault (misread.TooManyStatements count) = (2, decimal count)
+script_fault (misread.BadClient number) = (3, signed_decimal number)
 
--- the line that tells the fault of forms; none where they are a program of the thin form
+-- the line of a script that is misread, from its number and what it tells
+abbrev pub script_line : ℕ × List ℕ → List ℕ
+script_line parts = fault_line (codes "script " ++ decimal (parts.0) ++ 32 ∷ parts.1)
+
+-- the line that tells why forms are no program
+abbrev pub flaw_line : Flaw → Option (List ℕ)
+flaw_line (InSchema fault) = option_map schema_line (schema_fault fault)
+flaw_line (InScript misread) = Some (script_line (script_fault misread))
+
+-- the line for what forms are: that of the first fault; none of a program
+abbrev pub line_of : Result Program Flaw → Option (List ℕ)
+line_of (Err flaw) = flaw_line flaw
+line_of (Ok program) = None
+
+-- the line that tells the fault of forms; none where they are a program
 abbrev pub forms_line : List Form → Option (List ℕ)
 forms_line forms = line_of (program_in forms)
 

@@ -5,4 +5,4 @@ pub mod Found
 pub mod Output
 pub mod Status
 pub mod Try
-pub mod Run
+pub mod Ending

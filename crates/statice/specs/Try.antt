@@ -1,28 +1,30 @@
 -- What the command `try` does.
-use Rattle.std.specs.Prelude.{◌≡◌, ℕ, ◌+◌, ◌<◌, ◌≤◌, List, ◌++◌, length, codes, IfSome}
+use Rattle.std.specs.Prelude.{◌≡◌, ℕ, ◌+◌, ◌<◌, ◌≤◌, true, false, List, ◌++◌, length, codes, IfSome}
 use Rattle.std.specs.Io.KnownBytes.{Consumes}
 use Rattle.st_edge.specs.Faults.{Rose}
 use Rattle.st_edge.specs.States.{SourceState, SinkState, TakesAll, TakesFront, Takes}
 use Rattle.statice.specs.declared.input.TheConstants.{MAX_INPUT}
 use Rattle.statice.specs.declared.status.Ended.{Ended}
-use Rattle.statice.specs.declared.status.Ended.TheVariants.{Done, Refused, SourceFailed, SinkFailed, OutOfMemory, TooLong}
+use Rattle.statice.specs.declared.status.Ended.TheVariants.{Done, SomeRefused, Refused, SourceFailed, SinkFailed, OutOfMemory, TooLong}
 use Rattle.statice.specs.Fault.{IsFaulty}
-use Rattle.statice.specs.Form.{Program, IsThin}
-use Rattle.statice.specs.Output.{fault_line, printed_by, IsFront}
+use Rattle.statice.specs.Form.{Program, IsProgram}
+use Rattle.statice.specs.Output.{fault_line, printed_by, is_served, IsFront}
 
 -- an input that a source gave: all that it had left, where it tells that
 abbrev pub IsInput : SourceState → List ℕ → Type 0
 IsInput source input = IfSome source.left (λ bytes. input ≡ bytes)
 
 -- What is done with an input that was read to its end, from what the sink tells before to what it tells after.
--- Done: the input is a program of the thin form, and the sink took just what it prints.
--- Refused: the input is no such program, and the sink took the line that is due for it.
+-- Done: the input is a program, none of its transactions is refused, and the sink took just what it prints.
+-- SomeRefused: the input is a program, some of its transactions are refused, and the sink took just what it prints.
+-- Refused: the input is no program, and the sink took the line that is due for it.
 -- SinkFailed: the sink failed, and has a front of what the program prints.
 -- OutOfMemory: the sink has nothing or a front of what the program prints, and then the line that tells so.
 abbrev pub Answers : List ℕ → SinkState → SinkState → Ended → Type 0
-Answers input old new Done = (program : Program) × IsThin input program × TakesAll old new (printed_by program)
+Answers input old new Done = (program : Program) × IsProgram input program × (is_served program ≡ true) × TakesAll old new (printed_by program)
+Answers input old new SomeRefused = (program : Program) × IsProgram input program × (is_served program ≡ false) × TakesAll old new (printed_by program)
 Answers input old new Refused = (line : List ℕ) × IsFaulty input line × Takes old new line
-Answers input old new SinkFailed = (program : Program) × IsThin input program × Rose old.faults new.faults × TakesFront old new (printed_by program)
+Answers input old new SinkFailed = (program : Program) × IsProgram input program × Rose old.faults new.faults × TakesFront old new (printed_by program)
 Answers input old new OutOfMemory = (front : List ℕ) × IsFront input front × Takes old new (front ++ fault_line (codes "memory"))
 Answers input old new _ = ⊥
 

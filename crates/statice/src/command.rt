@@ -1,9 +1,7 @@
-ghost use Rattle.std.specs.Prelude.{◌≡◌, ◌≤◌, List, ℕ, true, false, length, codes};
-ghost use Rattle.std.specs.List.{All};
+ghost use Rattle.std.specs.Prelude.{◌≡◌, ◌≤◌, true, false, length, codes};
 ghost use Rattle.st_edge.specs.States.{Takes};
-ghost use Rattle.st_meaning.specs.Lines.{unrefused_output};
-ghost use Rattle.st_query.specs.Thin.{IsThinStatement};
 ghost use Rattle.statice.specs.declared.status.Ended.{Ended};
+ghost use Rattle.statice.specs.Found.{CanRun};
 ghost use Rattle.statice.specs.Output.{fault_line, Prints};
 ghost use Rattle.statice.specs.Status.{status_of};
 ghost use Rattle.statice.specs.Try.{Answers, Tries};
@@ -11,12 +9,12 @@ ghost use Rattle.statice.specs.Words.{is_try};
 
 use crate::input::{InputFault, MAX_INPUT, read_input};
 use crate::program::{Found, program_of};
-use crate::run::{MAX_STATEMENTS, RunFault, run};
 use crate::status::{BAD_WORDS, Ended, Status};
 use crate::words::is_try;
 use st_edge::{Disk, Failed, Sink, Source, write_all};
 use st_lattice::Schema;
-use st_query::Statement;
+use st_query::Script;
+use st_serial::{SerialFault, run_script};
 use std::alloc::Global;
 
 /// Writes the line of a fault if the sink takes it; a failure there changes nothing.
@@ -30,22 +28,17 @@ fn tell<K: Sink>(sink: &mut K, line: &[u8])
     }
 }
 
-/// Runs a program of the thin form.
-fn run_program<K: Sink>(
-    alloc: Global,
-    schema: Schema,
-    statements: &[Statement],
-    sink: &mut K,
-) -> Ended
-    requires few { length statements.now ≤ MAX_STATEMENTS }
-    requires thin { All IsThinStatement statements.now }
-    ensures prints { Prints (unrefused_output schema statements.now) (K.state sink.old) (K.state sink.new) result }
+/// Runs a program.
+fn run_program<K: Sink>(alloc: Global, schema: Schema, script: Script, sink: &mut K) -> Ended
+    requires { CanRun schema script }
+    ensures prints { Prints (schema, script) (K.state sink.old) (K.state sink.new) result }
     ensures never_falls { (K.state sink.old).faults ≤ (K.state sink.new).faults }
 {
-    match run(alloc, schema, statements, sink) {
-        Ok(()) => Ended::Done,
-        Err(RunFault::Sink) => Ended::SinkFailed,
-        Err(RunFault::Memory) => {
+    match run_script(alloc, schema, script, sink) {
+        Ok(true) => Ended::Done,
+        Ok(false) => Ended::SomeRefused,
+        Err(SerialFault::Sink) => Ended::SinkFailed,
+        Err(SerialFault::Memory) => {
             tell(sink, b"fault memory\n");
             Ended::OutOfMemory
         }
@@ -59,9 +52,7 @@ fn answer<K: Sink>(alloc: Global, input: &[u8], sink: &mut K) -> Ended
     ensures never_falls { (K.state sink.old).faults ≤ (K.state sink.new).faults }
 {
     match program_of(alloc, input) {
-        Ok(Found::Program(schema, statements)) => {
-            run_program(alloc, schema, statements.as_slice(), sink)
-        }
+        Ok(Found::Program(schema, script)) => run_program(alloc, schema, script, sink),
         Ok(Found::Faulty(line)) => {
             tell(sink, line.as_slice());
             Ended::Refused
@@ -95,15 +86,17 @@ fn try_input<S: Source, K: Sink>(alloc: Global, source: &mut S, sink: &mut K) ->
 }
 
 /// Runs a command of the database: the words behind the path, over a disk, a source and a sink. The only command is
-/// `try`, which reads a schema and a transaction and prints what the transaction prints over an empty database. The
-/// disk comes back as it was handed in.
+/// `try`, which reads a schema and any number of transactions, and prints what these print that run one after another over
+/// an empty database. The disk comes back as it was handed in.
 ///
-/// The status is `DONE` where the transaction has run and its lines are written; `BAD_WORDS` where the words are no
-/// command's, and then the source is as it was; `REFUSED` where the input is no text forms, begins with no schema, or has
-/// a script that is not in the thin form; `SOURCE_FAILED`, `SINK_FAILED`; `OUT_OF_MEMORY`; `TOO_LONG` where the input is
-/// longer than 1,048,576 bytes. All but `DONE` and `SINK_FAILED` come with a line `fault ..` if the sink takes it. For an
-/// input that is no text forms it is `fault text N PLACE`, its first fault's number and place in bytes; for one that
-/// begins with no schema `fault schema N FIELDS`, its first fault's number and fields.
+/// The status is `DONE` where all transactions have run, none was refused and their lines are written, and `SOME_REFUSED`
+/// where some was refused; `BAD_WORDS` where the words are no command's, and then the source is as it was; `REFUSED` where
+/// the input is no text forms, begins with no schema, or has a script that is misread; `SOURCE_FAILED`, `SINK_FAILED`;
+/// `OUT_OF_MEMORY`; `TOO_LONG` where the input is longer than 1,048,576 bytes. All but `DONE`, `SOME_REFUSED` and
+/// `SINK_FAILED` come with a line `fault ..` if the sink takes it. For an input that is no text forms it is
+/// `fault text N PLACE`, its first fault's number and place in bytes; for one that begins with no schema
+/// `fault schema N FIELDS`, its first fault's number and fields; for one whose script is misread `fault script N FIELD`, the
+/// number of the first misfit and its place or its count.
 pub fn statice<D: Disk, S: Source, K: Sink>(
     alloc: Global,
     words: &[String],

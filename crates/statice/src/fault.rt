@@ -1,11 +1,14 @@
-//! The lines of a text's and a schema's faults.
-ghost use Rattle.std.specs.Prelude.{◌≡◌, [], ◌∷◌, ◌++◌, codes, flat_map, Some, Err, IfOk, OnOk};
+//! The lines of a text's, a schema's and a script's faults.
+ghost use Rattle.std.specs.Prelude.{◌≡◌, [], ◌∷◌, ◌++◌, flat_map, Some, Err, IfOk, OnOk};
 ghost use Rattle.std.specs.Fmt.{decimal};
-ghost use Rattle.statice.specs.Output.{fault_line};
-ghost use Rattle.statice.specs.Fault.{text_fault, text_line, counted_word, schema_fault, schema_line, line_of, line_due};
+ghost use Rattle.st_statements.specs.declared.fault.Misread.{Misread};
+ghost use Rattle.st_reader.specs.Faults.{fault_of};
+ghost use Rattle.statice.specs.Form.{InSchema};
+ghost use Rattle.statice.specs.Fault.{text_fault, counted_word, schema_fault, schema_line, script_fault, script_line, flaw_line, line_due};
 
 use itoa::Buffer;
 use sqlite_items::Items;
+use st_reader::ScriptFault;
 use st_schema::{Counted, SchemaFault};
 use st_sexp::SexpFault;
 use st_text::Letters;
@@ -25,15 +28,23 @@ fn text_fault(fault: SexpFault) -> Option<(u8, u32)>
     }
 }
 
-fn text_line(alloc: Global, number: u8, place: u32) -> Result<Letters, AllocError>
-    ensures { IfOk result (λ line. line ≡ text_line (number, place)) }
+/// Adds a number and what it tells, and ends the line.
+fn push_told(into: &mut Letters, number: u8, what: &str) -> Result<(), AllocError>
+    ensures { OnOk result (into.new ≡ into.old ++ decimal number ++ 32 ∷ what.now ++ 10 ∷ []) }
 {
     let mut buffer = Buffer::new();
-    let mut line = Letters::from_text(alloc, "fault text ")?;
-    line.push_str(buffer.format(number))?;
-    line.push_str(" ")?;
-    line.push_str(buffer.format(place))?;
-    line.push_str("\n")?;
+    into.push_str(buffer.format(number))?;
+    into.push_str(" ")?;
+    into.push_str(what)?;
+    into.push_str("\n")
+}
+
+/// The line of a fault: its front, its number and what it tells.
+fn told_line(alloc: Global, front: &str, number: u8, what: &str) -> Result<Letters, AllocError>
+    ensures { IfOk result (λ line. line ≡ front.now ++ decimal number ++ 32 ∷ what.now ++ 10 ∷ []) }
+{
+    let mut line = Letters::from_text(alloc, front)?;
+    push_told(&mut line, number, what)?;
     Ok(line)
 }
 
@@ -41,8 +52,9 @@ fn text_line(alloc: Global, number: u8, place: u32) -> Result<Letters, AllocErro
 pub fn text_fault_line(alloc: Global, fault: SexpFault) -> Result<Letters, AllocError>
     ensures { IfOk result (λ line. line_due (Err fault) ≡ Some line) }
 {
+    let mut buffer = Buffer::new();
     match text_fault(fault) {
-        Some((number, place)) => text_line(alloc, number, place),
+        Some((number, place)) => told_line(alloc, "fault text ", number, buffer.format(place)),
         None => Err(AllocError),
     }
 }
@@ -159,7 +171,7 @@ fn schema_line(alloc: Global, number: u8, fields: &[Letters]) -> Result<Letters,
 
 /// The line of a schema's fault; want of memory is told as such.
 pub fn schema_fault_line(alloc: Global, fault: SchemaFault) -> Result<Letters, AllocError>
-    ensures { IfOk result (λ line. line_of (Err fault) ≡ Some line) }
+    ensures { IfOk result (λ line. flaw_line (InSchema fault) ≡ Some line) }
 {
     match schema_fault(alloc, fault)? {
         Some((number, fields)) => schema_line(alloc, number, fields.as_slice()),
@@ -167,9 +179,27 @@ pub fn schema_fault_line(alloc: Global, fault: SchemaFault) -> Result<Letters, A
     }
 }
 
-/// The line for a script that is not in the thin form.
-pub fn later_line(alloc: Global) -> Result<Letters, AllocError>
-    ensures { IfOk result (λ line. line ≡ fault_line (codes "later")) }
+/// The line of a script that is misread. Want of memory is told as such; no script has the other faults of an input.
+pub fn script_fault_line(alloc: Global, fault: ScriptFault) -> Result<Letters, AllocError>
+    ensures { IfOk result (λ line. (misread : Misread) × (fault ≡ fault_of misread) × (line ≡ script_line (script_fault misread))) }
 {
-    Letters::from_text(alloc, "fault later\n")
+    let mut buffer = Buffer::new();
+    match fault {
+        ScriptFault::Form { place } => told_line(alloc, "fault script ", 1, buffer.format(place)),
+        ScriptFault::TooManyStatements { count } => told_line(
+            alloc,
+            "fault script ",
+            2,
+            buffer.format(count),
+        ),
+        ScriptFault::BadClient { number } => told_line(
+            alloc,
+            "fault script ",
+            3,
+            buffer.format(number),
+        ),
+        ScriptFault::Text(_) | ScriptFault::InputTooLong { .. } | ScriptFault::Memory => {
+            Err(AllocError)
+        }
+    }
 }

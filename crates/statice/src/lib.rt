@@ -5,14 +5,13 @@ mod command;
 mod fault;
 mod input;
 mod laws;
-mod line;
 mod program;
-mod run;
 mod status;
 mod words;
 
 pub use command::statice;
-pub use laws::{laws_of_databases, laws_of_inputs};
+pub use laws::{laws_of_databases, laws_of_endings, laws_of_inputs};
 pub use status::{
-    BAD_WORDS, DONE, Ended, OUT_OF_MEMORY, REFUSED, SINK_FAILED, SOURCE_FAILED, Status, TOO_LONG,
+    BAD_WORDS, DONE, Ended, OUT_OF_MEMORY, REFUSED, SINK_FAILED, SOME_REFUSED, SOURCE_FAILED,
+    Status, TOO_LONG,
 };

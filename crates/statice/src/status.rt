@@ -4,13 +4,16 @@ ghost use Rattle.statice.specs.Status.{status_of};
 /// How a command ended, the status of its process.
 pub type Status = u8;
 
-/// The command was carried out.
+/// The command was carried out, and no transaction was refused.
 pub const DONE: Status = 0;
+
+/// The command was carried out, and some transaction was refused.
+pub const SOME_REFUSED: Status = 1;
 
 /// The words are no command's.
 pub const BAD_WORDS: Status = 2;
 
-/// The input is refused: it is out of form, or its schema is at fault.
+/// The input is refused: it is out of form, or its schema or its script is at fault.
 pub const REFUSED: Status = 3;
 
 /// The source failed.
@@ -28,8 +31,10 @@ pub const TOO_LONG: Status = 9;
 /// How a command ended whose words are in order.
 #[derive(Clone, Copy, Debug, PartialEq, Eq)]
 pub enum Ended {
-    /// It was carried out.
+    /// It was carried out, and no transaction was refused.
     Done,
+    /// It was carried out, and some transaction was refused.
+    SomeRefused,
     /// Its input is refused.
     Refused,
     /// The source failed.
@@ -49,6 +54,7 @@ impl Ended {
     {
         match self {
             Ended::Done => DONE,
+            Ended::SomeRefused => SOME_REFUSED,
             Ended::Refused => REFUSED,
             Ended::SourceFailed => SOURCE_FAILED,
             Ended::SinkFailed => SINK_FAILED,

@@ -1,0 +1,95 @@
+#!/usr/bin/env python3
+"""Times a `for-each` with one condition and one order key over 10,000 and 20,000 people, and sqlite3 doing the same.
+
+    python3 bench/select_time.py                    the program of this copy of the repository
+    python3 bench/select_time.py OTHER/bin/statice  another program
+
+One input makes the people, in transactions of 4,000 statements, and then selects those of one grade in the order of their
+rooms. sqlite3 (Debian's package) inserts the same rows into a table in memory and selects the same ones in the same order,
+in one run. Prints the least times of five runs each, how many times longer the second count takes, and how many times
+longer than sqlite3's. The `for-each` by itself is the difference to an input without it.
+"""
+
+import pathlib
+import subprocess
+import sys
+import time
+
+PROGRAM = pathlib.Path(sys.argv[1] if len(sys.argv) > 1 else pathlib.Path(__file__).resolve().parent.parent / "bin" / "statice")
+RUNS = 5
+EACH = 4000
+
+
+def people(count):
+    """Names, grades and rooms."""
+    return [(f"Ada {n}", n % 7, f"room {n * 7919 % 1000}") for n in range(count)]
+
+
+def script_of(count, selects):
+    """The input of the program, and the number of its transactions."""
+    lines = ["(define-schema staff)", "(define-entity-type person () ((name string) (grade integer) (room string)))"]
+    made, transactions = people(count), 0
+    for first in range(0, count, EACH):
+        lines.append("(with-transaction")
+        for name, grade, room in made[first:first + EACH]:
+            lines.append(f'(make p person (name "{name}") (grade {grade}) (room "{room}"))')
+        lines.append(")")
+        transactions += 1
+    if selects:
+        lines.append("(with-transaction (for-each (q person) (where (= (person.grade q) 3)) (order-by ((person.room q) asc)) (show (person.name q) (person.room q))))")
+        transactions += 1
+    return "\n".join(lines).encode(), transactions
+
+
+def rows_of(count):
+    """The rows that are selected, in order; rooms are compared as texts, and ties stand in the order of making."""
+    return sorted(((room, n, name) for n, (name, grade, room) in enumerate(people(count)) if grade == 3))
+
+
+def sql_of(count):
+    values = "".join(f"INSERT INTO person VALUES({n + 1},'{name}',{grade},'{room}');\n" for n, (name, grade, room) in enumerate(people(count)))
+    return (
+        "CREATE TABLE person(id INTEGER PRIMARY KEY, name TEXT, grade INTEGER, room TEXT);\nBEGIN;\n" + values
+        + "COMMIT;\nSELECT id, name, room FROM person WHERE grade = 3 ORDER BY room, id;\n"
+    ).encode()
+
+
+def timed(words, given):
+    began = time.perf_counter()
+    ran = subprocess.run(words, input=given, stdout=subprocess.PIPE, check=False)
+    return time.perf_counter() - began, ran.returncode, ran.stdout
+
+
+def least(words, given, is_right):
+    times = []
+    for _ in range(RUNS):
+        seconds, status, output = timed(words, given)
+        assert is_right(status, output), (status, output[-300:])
+        times.append(seconds)
+    return min(times)
+
+
+def main():
+    times = {}
+    for count in (10_000, 20_000):
+        rows = rows_of(count)
+        given, transactions = script_of(count, True)
+        lines = [f'* person#{n + 1} "{name}" "{room}"' for room, n, name in rows]
+
+        def is_right(status, output):
+            shown = [line.split(" ", 2)[2] for line in output.decode().splitlines() if line.split(" ", 3)[2] == "*"]
+            return status == 0 and shown == lines and output.endswith(f" commit {transactions}\n".encode())
+
+        def is_sql_right(status, output):
+            return status == 0 and output.decode().splitlines() == [f"{n + 1}|{name}|{room}" for room, n, name in rows]
+
+        alone = least([PROGRAM, "x.st", "try"], script_of(count, False)[0], lambda status, output: status == 0)
+        whole = least([PROGRAM, "x.st", "try"], given, is_right)
+        sql = least(["sqlite3", ":memory:"], sql_of(count), is_sql_right)
+        times[count] = (whole, whole - alone)
+        print(f"{count:,} people: {whole:.4f} s, of it the for-each {whole - alone:.4f} s; sqlite3 {sql:.4f} s, that is {whole / sql:.2f} times as long")
+    print(f"ratio: {times[20_000][0] / times[10_000][0]:.2f}, of the for-each alone {times[20_000][1] / times[10_000][1]:.2f}")
+
+
+if __name__ == "__main__":
+    main()

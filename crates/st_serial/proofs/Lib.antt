@@ -1,0 +1,4 @@
+mod Stepping
+mod Pieces
+mod Ongoing
+mod Serving

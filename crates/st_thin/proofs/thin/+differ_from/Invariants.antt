@@ -1,5 +1,0 @@
-use Rattle.std.proofs.Common.{length}
-use Rattle.st_thin.proofs.thin.+differ_from.Given as goal
-
-abbrev pub decreases-differ_from : goal.decreases-differ_from
-decreases-differ_from l = length l.cells.now
