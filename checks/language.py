@@ -48,9 +48,13 @@ class Schema:
         self.types = [name for name, _ in types]
         self.parents = [parents for _, parents in types]
         self.attributes = attributes
+        # what each type is of: itself, its parents and what these are of, which stand before it
+        self.above = []
+        for type_, parents in enumerate(self.parents):
+            self.above.append({type_}.union(*(self.above[parent] for parent in parents)))
 
     def isa(self, type_, ancestor):
-        return type_ == ancestor or any(self.isa(parent, ancestor) for parent in self.parents[type_])
+        return ancestor in self.above[type_]
 
     def descendants(self, type_):
         return [other for other in range(len(self.types)) if self.isa(other, type_)]
@@ -634,9 +638,9 @@ class Transaction:
         return [*lines, f". {len(found)}"]
 
 
-def script_lines(schema, transactions):
-    """What a client prints that runs transactions one after another over an empty database."""
-    state, turn, commits, lines = State(schema), 1, 0, []
+def run(schema, transactions):
+    """What a client prints that runs transactions one after another over an empty database; the rules that refused."""
+    state, turn, commits, lines, rules = State(schema), 1, 0, [], []
     for number, statements in enumerate(transactions, 1):
         transaction = Transaction(state.copy())
         try:
@@ -647,5 +651,11 @@ def script_lines(schema, transactions):
             lines.append(f"{turn} 1.{number} commit {commits}")
         except Refused as refusal:
             lines.append(f"{turn} 1.{number} refused {commits} {refusal.printed(schema)}")
+            rules.append(refusal.rule)
         turn += 1
-    return lines
+    return lines, rules
+
+
+def script_lines(schema, transactions):
+    """What a client prints that runs transactions one after another over an empty database."""
+    return run(schema, transactions)[0]

@@ -245,6 +245,11 @@ def transaction(form):
     return [statement(item) for item in items]
 
 
+def script(forms):
+    """The transactions of a script."""
+    return [transaction(form) for form in forms]
+
+
 def query_alone(form):
     if not is_headed(form, "for-each"):
         raise misfit(form, "no query")
@@ -344,7 +349,7 @@ class Answer(NamedTuple):
 
 
 READERS = {
-    "script": lambda forms: script_text([transaction(form) for form in forms]),
+    "script": lambda forms: script_text(script(forms)),
     "query": lambda forms: query_text(only(forms, query_alone)),
     "transaction": lambda forms: transaction_text(only(forms, transaction)),
 }

@@ -12,21 +12,17 @@ program of cases, whose folder has `data/` and `stdout`. The status is 0 where n
 import argparse
 import collections
 import pathlib
-import re
 import shutil
 import sys
 import tempfile
 
 from asking import asked, plain
+from cases import judge, shortened
 from drawn_texts import Writer
 from reading import READERS, ScriptFault, answer, answers, forms_of
 from texts import is_headed
 
 # ---- random texts
-
-
-def shortened(text):
-    return text if len(text) < 3000 else f"{text[:1500]} .. {text[-1500:]}"
 
 
 def counted(expected):
@@ -67,49 +63,6 @@ def compare(count, seed):
 # ---- a program of cases
 
 
-def repeated(inside):
-    """What the inside of braces stands for."""
-    count, blank, text = inside.partition(" ")
-    if not blank:
-        return bytes.fromhex(inside) if re.fullmatch("([0-9a-fA-F]{2})*", inside) else b""
-    times = int(count) if re.fullmatch("[0-9]+", count) else 0
-    if "#" not in text:
-        return text.encode() * times
-    return b"".join(text.replace("#", str(number), 1).encode() for number in range(times))
-
-
-def written_out(text, opening, closing):
-    """A text with what stands between braces written out."""
-    first, *pieces = text.split(opening)
-    out = first.encode()
-    for piece in pieces:
-        inside, found, behind = piece.partition(closing)
-        out += repeated(inside) + behind.encode() if found else piece.encode()
-    return out
-
-
-def case_of(front, item):
-    """The bytes of a case behind its front, and the place of its mark."""
-    front, text = (written_out(written_out(part, "{{", "}}").decode(), "{", "}") for part in (front, item))
-    mark = text.find(b"^")
-    return front + (text if mark < 0 else text[:mark] + text[mark + 1 :]), None if mark < 0 else len(front) + mark
-
-
-def cases_of(table):
-    """The cases of a table: each with its first line."""
-    items, front = [""], ""
-    for line in table.split("\n"):
-        if line.startswith("  "):
-            items[-1] += f"\n{line[2:]}"
-        else:
-            items.append(line)
-    for item in items:
-        if item.startswith("> "):
-            front = f"{item[2:]}\n"
-        elif item and not item.startswith("# "):
-            yield item.split("\n")[0], *case_of(front, item)
-
-
 def program_answer(text):
     """How many forms stand before the first transaction of a text, and what the others are as a script."""
     try:
@@ -133,48 +86,15 @@ TABLES = {
 }
 
 
-def judged(name, table, printed):
-    """Prints where the cases of a table have other answers than the model gives them; how many have."""
-    cases, differing = list(cases_of(table)), 0
-    for place, (line, text, mark) in enumerate(cases):
-        due = TABLES[name](text)
-        if mark is not None and due.split(" ")[-1] == str(mark):
-            due = f"{due[: due.rindex(' ')]} ^"
-        came = printed[place] if place < len(printed) else "nothing at all"
-        if came != f"{line} => {due}":
-            differing += 1
-            print(f"{name}: {shortened(line)}\n  the model: {shortened(due)}\n  the program: {shortened(came)}")
-    if len(printed) != len(cases):
-        differing += 1
-        print(f"{name}: {len(cases)} cases, {len(printed)} answers")
-    print(f"{name}: {differing} of {len(cases)} differ")
-    return differing
-
-
-def judge(folder):
-    lines, of_tables = [], {}
-    for line in (folder / "stdout").read_bytes().decode().split("\n"):
-        if found := re.fullmatch(r"(\w+\.txt): [0-9]+ cases", line):
-            of_tables[found[1]], lines = lines, []
-        elif line or lines:
-            lines.append(line)
-    differing = 0
-    for path in sorted((folder / "data").iterdir()):
-        if path.name in TABLES:
-            differing += judged(path.name, path.read_bytes().decode(), of_tables.get(path.name, []))
-        else:
-            print(f"{path.name}: not judged")
-    return 1 if differing else 0
-
-
 def main():
     parser = argparse.ArgumentParser(description="Compares the readers of scripts with the model.")
     parser.add_argument("--count", type=int, default=2000, help="how many texts")
     parser.add_argument("--seed", type=int, default=1, help="which texts")
     parser.add_argument("--table", type=pathlib.Path, help="the folder of a program of cases")
     words = parser.parse_args()
-    sys.set_int_max_str_digits(0)
-    return judge(words.table) if words.table else compare(words.count, words.seed)
+    if words.table:
+        return 0 if judge(words.table, TABLES) else 1
+    return compare(words.count, words.seed)
 
 
 if __name__ == "__main__":

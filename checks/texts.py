@@ -1,4 +1,4 @@
-"""A model of the texts: text forms, schemas and the thin form, with the fault that is due for each input.
+"""A model of the texts: text forms and schemas, with the fault that is due for each input.
 
 It restates the rules of the manual in docs/reference, and shares nothing with the program. Places are bytes from 0.
 """
@@ -6,7 +6,7 @@ It restates the rules of the manual in docs/reference, and shares nothing with t
 import re
 from typing import NamedTuple
 
-from language import Attribute, Kind, Literal, Make, Path, Print, Schema, Set, Variable, script_lines
+from language import Attribute, Kind, Schema
 
 MOST_BYTES = 1048576
 MOST_OPEN_LISTS = 64
@@ -25,10 +25,6 @@ class SchemaFault(Exception):
     """The number and the fields of a schema's first fault."""
 
 
-class Later(Exception):
-    """A script is not in the thin form."""
-
-
 class Form(NamedTuple):
     """A form: a `name`, a `number`, a `text` or a `list`, and where it begins."""
 
@@ -38,6 +34,17 @@ class Form(NamedTuple):
 
 
 # ---- text forms
+
+
+def number(token, place):
+    """The number that a token is."""
+    digits = token.lstrip(b"-0")
+    if not re.fullmatch(rb"-?[0-9]+", token) or len(digits) > 19:
+        raise TextFault(3, place)
+    found = int(digits or b"0") * (-1 if token[:1] == b"-" else 1)
+    if not -(2**63) <= found < 2**63:
+        raise TextFault(3, place)
+    return found
 
 
 class Reader:
@@ -114,9 +121,7 @@ class Reader:
             self.at += 1
         token = self.text[place : self.at]
         if re.match(rb"-?[0-9]", token):
-            if not re.fullmatch(rb"-?[0-9]+", token) or not -(2**63) <= int(token) < 2**63:
-                raise TextFault(3, place)
-            self.add("number", int(token), place)
+            self.add("number", number(token, place), place)
             return
         for index in range(len(token)):
             if not NAME_BYTES.match(token, index):
@@ -341,121 +346,3 @@ def schema(forms):
                 Attribute(len(attributes), owner, a.name, kind, a.many, a.option(":inverse", None), *flags)
             )
     return Schema(name, [(t.name, [names.index(p) for p in t.parents]) for t in types], attributes)
-
-
-# ---- the thin form of a script
-
-
-class Thin:
-    """Reads the statements of a script in the thin form."""
-
-    def __init__(self, schema_):
-        self.schema, self.bound = schema_, {}
-
-    def script(self, forms):
-        attributes = self.schema.attributes
-        if len(forms) != 1 or len(forms[0].value) > 4097 or any(a.no_nulls for a in attributes):
-            raise Later
-        statements = [self.statement(form) for form in forms[0].value[1:]]
-        makes = sum(isinstance(statement, Make) for statement in statements)
-        if makes > 1 and any(a.unique for a in attributes):
-            raise Later
-        return statements
-
-    def name(self, form):
-        if not is_identifier(form):
-            raise Later
-        return form.value
-
-    def pair(self, form):
-        if form.shape != "list" or len(form.value) != 2:
-            raise Later
-        return form.value
-
-    def feature(self, form):
-        """A path, its attribute, and whether it is the inverse of it."""
-        feature, variable = self.pair(form)
-        found = self.schema.feature(feature.value) if feature.shape == "name" else None
-        type__ = self.bound.get(self.name(variable))
-        if found is None or type__ is None:
-            raise Later
-        a, is_inverse = found
-        if not self.schema.isa(type__, a.kind.of if is_inverse else a.owner):
-            raise Later
-        return Path(feature.value, Variable(variable.value)), a, is_inverse
-
-    def term(self, form):
-        """A term, and the kind of its value; None for a set."""
-        match form.shape:
-            case "number":
-                return Literal(form.value), Kind("integer")
-            case "text":
-                return Literal(form.value.decode()), Kind("string", len(form.value))
-            case "name":
-                if self.name(form) not in self.bound:
-                    raise Later
-                return Variable(form.value), Kind("entity", self.bound[form.value])
-        path, a, is_inverse = self.feature(form)
-        return path, None if is_inverse or a.many else a.kind
-
-    def value(self, form, wanted):
-        """A term whose values are all of a kind."""
-        term, kind = self.term(form)
-        if kind is None or kind.name != wanted.name:
-            raise Later
-        if kind.name == "string" and kind.of > wanted.of:
-            raise Later
-        if kind.name == "entity" and not self.schema.isa(kind.of, wanted.of):
-            raise Later
-        return term
-
-    def statement(self, form):
-        if form.shape != "list" or not form.value or form.value[0].shape != "name":
-            raise Later
-        word, *parts = form.value
-        match word.value, parts:
-            case "make", [var, name, *cells]:
-                return self.make(self.name(var), self.name(name), cells)
-            case "set", [target, value]:
-                path, a, is_inverse = self.feature(target)
-                if is_inverse or a.many:
-                    raise Later
-                return Set(path.feature, path.inner, self.value(value, a.kind))
-            case "print", [_, *_]:
-                return Print([self.term(part)[0] for part in parts])
-        raise Later
-
-    def make(self, var, name, forms):
-        type__, cells = self.schema.type_named(name), []
-        if type__ is None:
-            raise Later
-        for form in forms:
-            short, value = self.pair(form)
-            a = self.schema.attribute_of(type__, self.name(short))
-            if a is None or a.many or a.name in dict(cells):
-                raise Later
-            cells.append((a.name, self.value(value, a.kind)))
-        self.bound[var] = type__
-        return Make(var, name, cells)
-
-
-# ---- the command `try`
-
-
-def try_(text):
-    """The status of `try` and what it prints."""
-    if len(text) > MOST_BYTES:
-        return 9, f"fault input {MOST_BYTES + 1}\n"
-    try:
-        forms = Reader(text).forms()
-        scripts = [place for place, form in enumerate(forms) if is_headed(form, "with-transaction")]
-        split = scripts[0] if scripts else len(forms)
-        schema_ = schema(forms[:split])
-        statements = Thin(schema_).script(forms[split:])
-    except TextFault as fault:
-        return 3, "fault text {} {}\n".format(*fault.args)
-    except SchemaFault as fault:
-        return 3, f"fault schema {' '.join(map(str, fault.args))}\n"
-    except Later:
-        return 3, "fault later\n"
-    return 0, "".join(f"{line}\n" for line in script_lines(schema_, [statements]))
