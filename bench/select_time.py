@@ -21,35 +21,35 @@ EACH = 4000
 
 
 def people(count):
-    """Names, grades and rooms."""
-    return [(f"Ada {n}", n % 7, f"room {n * 7919 % 1000}") for n in range(count)]
+    """Names, grades and the numbers of rooms."""
+    return [(f"Ada {n}", n % 7, n * 7919 % 1000) for n in range(count)]
 
 
 def script_of(count, selects):
-    """The input of the program, and the number of its transactions."""
-    lines = ["(define-schema staff)", "(define-entity-type person () ((name string) (grade integer) (room string)))"]
+    """The input of the program, and the number of its transactions. Names are short, so that an input may have so many people."""
+    lines = ["(define-schema s)", "(define-entity-type p () ((n string) (g integer) (r integer)))"]
     made, transactions = people(count), 0
     for first in range(0, count, EACH):
         lines.append("(with-transaction")
         for name, grade, room in made[first:first + EACH]:
-            lines.append(f'(make p person (name "{name}") (grade {grade}) (room "{room}"))')
+            lines.append(f'(make x p (n "{name}")(g {grade})(r {room}))')
         lines.append(")")
         transactions += 1
     if selects:
-        lines.append("(with-transaction (for-each (q person) (where (= (person.grade q) 3)) (order-by ((person.room q) asc)) (show (person.name q) (person.room q))))")
+        lines.append("(with-transaction (for-each (q p) (where (= (p.g q) 3)) (order-by ((p.r q) asc)) (show (p.n q) (p.r q))))")
         transactions += 1
     return "\n".join(lines).encode(), transactions
 
 
 def rows_of(count):
-    """The rows that are selected, in order; rooms are compared as texts, and ties stand in the order of making."""
+    """The rows that are selected, in order; ties stand in the order of making."""
     return sorted(((room, n, name) for n, (name, grade, room) in enumerate(people(count)) if grade == 3))
 
 
 def sql_of(count):
-    values = "".join(f"INSERT INTO person VALUES({n + 1},'{name}',{grade},'{room}');\n" for n, (name, grade, room) in enumerate(people(count)))
+    values = "".join(f"INSERT INTO person VALUES({n + 1},'{name}',{grade},{room});\n" for n, (name, grade, room) in enumerate(people(count)))
     return (
-        "CREATE TABLE person(id INTEGER PRIMARY KEY, name TEXT, grade INTEGER, room TEXT);\nBEGIN;\n" + values
+        "CREATE TABLE person(id INTEGER PRIMARY KEY, name TEXT, grade INTEGER, room INTEGER);\nBEGIN;\n" + values
         + "COMMIT;\nSELECT id, name, room FROM person WHERE grade = 3 ORDER BY room, id;\n"
     ).encode()
 
@@ -74,7 +74,7 @@ def main():
     for count in (10_000, 20_000):
         rows = rows_of(count)
         given, transactions = script_of(count, True)
-        lines = [f'* person#{n + 1} "{name}" "{room}"' for room, n, name in rows]
+        lines = [f'* p#{n + 1} "{name}" {room}' for room, n, name in rows]
 
         def is_right(status, output):
             shown = [line.split(" ", 2)[2] for line in output.decode().splitlines() if line.split(" ", 3)[2] == "*"]
