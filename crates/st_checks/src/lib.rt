@@ -5,3 +5,5 @@
 mod copies;
 #[cfg(test)]
 mod edge;
+#[cfg(test)]
+mod keys;

@@ -1,0 +1,4 @@
+mod Texts
+mod Reading
+mod Ordered
+mod KeyLaws
