@@ -1,0 +1,4 @@
+pub mod Front
+pub mod Same
+pub mod ByteLaws
+pub mod Narrow
