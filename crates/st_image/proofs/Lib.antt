@@ -1,0 +1,17 @@
+pub mod Forms
+pub mod HeadChecks
+pub mod PageKinds
+pub mod Laid
+pub mod Numbers
+pub mod Ordered
+pub mod PageChecks
+pub mod Raising
+pub mod Ranges
+pub mod Read
+pub mod RowChecks
+pub mod RowLoop
+pub mod RowParts
+pub mod Sides
+pub mod Written
+pub mod Wrong
+pub mod Zeros
