@@ -1,0 +1,7 @@
+pub mod Attempted
+pub mod HowMany
+pub mod Laws
+pub mod Memory
+pub mod Slots
+pub mod Sound
+pub mod Whole

@@ -1,0 +1,5 @@
+pub mod Attempt
+pub mod Calls
+pub mod Images
+pub mod Searched
+pub mod Places

@@ -1,0 +1,12 @@
+//! What is asked of the pages of a database: to get one, to put one, and to draw a free one; and pages in memory.
+#![tactic(auto)]
+
+mod images;
+mod laws;
+mod pages;
+mod places;
+
+pub use images::Images;
+pub use laws::{laws_of_attempts, laws_of_images};
+pub use pages::Pages;
+pub use places::{Place, Places};
