@@ -1,0 +1,4 @@
+pub mod Chains
+pub mod Stores
+pub mod Catalog
+pub mod Reading

@@ -1,0 +1,9 @@
+pub mod Written
+pub mod Chained
+pub mod Sizes
+pub mod Fields
+pub mod Linked
+pub mod Texts
+pub mod Pieces
+pub mod Rooted
+pub mod Named
