@@ -1,0 +1,118 @@
+#!/usr/bin/env python3
+"""Times `check_page` of `st_image` over a full leaf, of 291 rows of 14 bytes that are keys as a whole.
+
+    python3 bench/page_time.py          builds a program beside copies of the crates that it needs, and times it
+    python3 bench/page_time.py --keep   the same, and leaves the folder with the program, for a profile
+
+The program checks the page as often as its standard input says. Its processor time with few checks is taken off that
+with many, the least of five runs each. Prints how many MiB of pages are checked in a second: at least 200 are wanted.
+"""
+
+import argparse
+import pathlib
+import resource
+import shutil
+import subprocess
+import tempfile
+
+ROOT = pathlib.Path(__file__).resolve().parent.parent
+CRATE = "st_page_time"
+BELOW = ("st_text", "st_values", "st_image")
+RUNS = 5
+FEW, MANY = 1000, 200_000
+PAGE = 4096
+WANTED = 200
+PROGRAM = """//! Checks a full leaf as often as its input says.
+#![tactic(auto)]
+
+use st_image::{Page, Wanted, check_page};
+use std::io;
+
+/// A leaf of 291 rows of 14 bytes, whose keys end with their number.
+fn leaf() -> Page {
+    let mut page = Page::blank();
+    page.set_kind(3);
+    page.set_count(291);
+    page.set_store(131073);
+    for number in 0..291u16 {
+        let at = 16 + 14 * usize::from(number);
+        page.write(at, &[128, 0, 0, 0, 0, 0, 0, 5, 0, 1, 0, 0]);
+        page.write(at + 12, &number.to_be_bytes());
+    }
+    page
+}
+
+/// How often the page isn't found sound.
+fn wrong(page: &Page, times: u32) -> u32 {
+    let mut count = 0u32;
+    for _ in 0..times {
+        let wanted = Wanted::Leaf {
+            store: page.store(),
+            key: 14,
+            width: 14,
+        };
+        if check_page(page, wanted).is_err() {
+            count = count.saturating_add(1);
+        }
+    }
+    count
+}
+
+fn main(rt: HostRuntime) -> io::Result<()> {
+    let text = io::read_to_string(rt.alloc(), rt.reader())?;
+    let times = text.as_str().trim().parse::<u32>().unwrap_or(0);
+    let count = wrong(&leaf(), times);
+    println!(rt; "{count} of {times} are wrong")
+}
+"""
+
+
+def build(folder):
+    """The program, built in a folder."""
+    for name in BELOW:
+        shutil.copytree(ROOT / "crates" / name, folder / "crates" / name, ignore=shutil.ignore_patterns("must-fail"))
+    lines = [line for line in (ROOT / "crates.txt").read_text().splitlines() if line.split(":")[0] in BELOW]
+    (folder / "crates.txt").write_text("\n".join([*lines, f"{CRATE}: st_image", ""]))
+    crate = folder / "crates" / CRATE
+    (crate / "src").mkdir(parents=True)
+    (crate / "src" / "main.rt").write_text(PROGRAM)
+    ran = subprocess.run(["rt", "run"], cwd=crate, input=b"1", capture_output=True, check=False)
+    if ran.returncode:
+        raise SystemExit((ran.stdout + ran.stderr).decode())
+    return crate / "out" / CRATE
+
+
+def spent():
+    """The processor time of the programs that have ended, in seconds."""
+    used = resource.getrusage(resource.RUSAGE_CHILDREN)
+    return used.ru_utime + used.ru_stime
+
+
+def least_time(program, times):
+    """The least processor time of some runs with so many checks, in seconds."""
+    found = []
+    for _ in range(RUNS):
+        before = spent()
+        ran = subprocess.run([program], input=b"%d" % times, stdout=subprocess.PIPE, check=True)
+        found.append(spent() - before)
+        assert ran.stdout == b"0 of %d are wrong\n" % times, ran.stdout
+    return min(found)
+
+
+def main():
+    parser = argparse.ArgumentParser(description="Times the check of a full leaf.")
+    parser.add_argument("--keep", action="store_true", help="leaves the folder with the program")
+    keep = parser.parse_args().keep
+    folder = pathlib.Path(tempfile.mkdtemp(prefix="statice-pages-"))
+    program = build(folder)
+    seconds = (least_time(program, MANY) - least_time(program, FEW)) / (MANY - FEW)
+    speed = PAGE / seconds / (1 << 20)
+    print(f"a full leaf of 291 rows: {seconds * 1e6:.2f} microseconds, {speed:.0f} MiB/s; wanted {WANTED}")
+    if keep:
+        print(program)
+    else:
+        shutil.rmtree(folder)
+
+
+if __name__ == "__main__":
+    main()

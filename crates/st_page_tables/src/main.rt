@@ -1,0 +1,22 @@
+//! Reads tables of pages, rows and keys, files of the folder that it runs in, and prints each case with what is read of it.
+#![tactic(auto)]
+
+mod given;
+mod keys;
+mod pages;
+mod rows;
+mod table;
+mod told;
+
+use crate::table::TABLES;
+use st_cases::answered;
+use std::{fs, io};
+
+fn main(rt: HostRuntime) -> io::Result<()> {
+    for table in TABLES {
+        let text = fs::read_to_string(&rt, table.file())?;
+        let answers = answered(rt.alloc(), &table, table.file(), text.as_str())?;
+        print!(rt; "{answers}")?;
+    }
+    Ok(())
+}
