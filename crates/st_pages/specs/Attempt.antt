@@ -1,9 +1,9 @@
 -- What an attempt at a transaction knows of pages, and how each call moves it.
-use Rattle.std.specs.Prelude.{◌≡◌, ℕ, zero, suc, ◌+◌, ◌<◌, ◌≤◌, ◌==◌, ◌||◌, ◌&&◌, Bool, true, false, not, if◌then◌else◌, List, length, Option, Some, None, IsSome, IsTrue, is_some}
+use Rattle.std.specs.Prelude.{◌≡◌, ℕ, zero, suc, ◌+◌, ◌<◌, ◌≤◌, ◌==◌, ◌||◌, ◌&&◌, Bool, true, false, not, if◌then◌else◌, List, length, Option, Some, None, IsSome, IsTrue, is_some, nat_le}
 use Rattle.std.specs.Option.{option_or}
 use Rattle.std.specs.Str.{bytes_eq}
 use Rattle.st_image.specs.Bytes.{IsBytes}
-use Rattle.st_image.specs.Fields.{blank}
+use Rattle.st_image.specs.Fields.{blank, kind_of}
 
 -- the bytes of all pages, by their numbers
 abbrev pub Array : Type 0
@@ -82,6 +82,15 @@ was_blank (Some image) = bytes_eq image blank
 -- how many pages were taken into use: drawn, or blank when they were seen, and written
 abbrev pub taken : Attempt → ℕ
 taken a = how_many (λ page. a.drawn page || (was_blank (a.seen page) && is_some (a.written page))) page_count
+
+-- whether an image is one of a page of rows or of a tree
+abbrev pub is_of_store : Option (List ℕ) → Bool
+is_of_store None = false
+is_of_store (Some image) = nat_le 2 (kind_of image) && nat_le (kind_of image) 4
+
+-- whether a step of a transaction may put a page: it was drawn, or it was a page of a store when it was seen
+abbrev pub may_put : Attempt → ℕ → Bool
+may_put a page = a.drawn page || is_of_store (a.seen page)
 
 -- an image of a page: its 4,096 bytes
 pub record IsImage (image : List ℕ) : Type 0 where
