@@ -180,3 +180,163 @@ def first_wrong(wanted, page):
         else:
             wrong = middle
     return sound
+
+
+# ---- databases in pages: what a schema's stores are, how a new database begins, and what pages are read as
+
+
+class BadPage(Exception):
+    """The page and the place at which pages are no database."""
+
+
+def entry_width(kind):
+    """How many bytes the key of a value takes."""
+    return {"integer": 8, "boolean": 1, "string": kind.of + 1, "entity": 6}[kind.name]
+
+
+def type_width(schema, type_):
+    """How many bytes a row of a type takes: its serial, and a byte and a key for each attribute of single values."""
+    return 4 + sum(1 + entry_width(a.kind) for a in schema.attributes_of(type_) if not a.many)
+
+
+def stores(schema):
+    """The stores of a schema, ascending, each with the bytes of its rows' keys and of its rows."""
+    found = {type_: (4, type_width(schema, type_)) for type_ in range(len(schema.types))}
+    for a in schema.attributes:
+        for kind, is_kept in [(1, a.many), (2, a.index or a.unique), (3, a.inverse is not None)]:
+            if is_kept:
+                found[kind * PAGES + a.number] = (6 + entry_width(a.kind),) * 2
+    return dict(sorted(found.items()))
+
+
+def written_kind(schema, kind):
+    if kind.name == "string":
+        return f"(string {kind.of})"
+    return schema.types[kind.of] if kind.name == "entity" else kind.name
+
+
+def written_attribute(schema, a):
+    kind = written_kind(schema, a.kind)
+    words = [a.name, f"(set-of {kind})" if a.many else kind]
+    words += [f":inverse {a.inverse}"] if a.inverse else []
+    flags = [(":unique", a.unique), (":no-nulls", a.no_nulls), (":index", a.index and not a.unique)]
+    return f"({' '.join(words + [f'{word} t' for word, is_on in flags if is_on])})"
+
+
+def canonical(schema):
+    """The text of a schema as it is printed."""
+    lines = [f"(define-schema {schema.name})\n"]
+    for type_, name in enumerate(schema.types):
+        parents = " ".join(schema.types[parent] for parent in schema.parents[type_])
+        own = " ".join(written_attribute(schema, a) for a in schema.attributes if a.owner == type_)
+        lines.append(f"(define-entity-type {name} ({parents}) ({own}))\n")
+    return "".join(lines).encode()
+
+
+def schema_bytes(schema):
+    """A schema as it is stored: its text behind the text's length, and the numbers of its attributes."""
+    text = canonical(schema)
+    numbers = b"".join(a.number.to_bytes(2, "big") + b"\0" for a in schema.attributes)
+    return len(text).to_bytes(4, "big") + text + numbers + len(schema.attributes).to_bytes(2, "big")
+
+
+def page_of(kind, count=0, store=0, next_=0, body=b""):
+    head = bytes([kind, 0]) + count.to_bytes(2, "big") + store.to_bytes(4, "big") + next_.to_bytes(4, "big") + bytes(4)
+    return head + body + bytes(BODY - len(body))
+
+
+def pieces(data):
+    return [data[at : at + BODY] for at in range(0, len(data), BODY)] or [b""]
+
+
+def new_database(schema):
+    """The pages of a new database: the first ones of the roots and of the schema, the others of the schema and of the roots,
+    and one page for each store."""
+    texts = pieces(schema_bytes(schema))
+    numbers = list(stores(schema))
+    roots_pages = max(1, -(-len(numbers) // (BODY // 8)))
+    first = len(texts) + roots_pages
+    roots = pieces(b"".join(n.to_bytes(4, "big") + (first + i).to_bytes(4, "big") for i, n in enumerate(numbers)))
+    text_numbers = [1, *range(2, len(texts) + 1), 0]
+    roots_numbers = [0, *range(len(texts) + 1, first), 0]
+    pages = {n: page_of(2, store=store) for n, store in enumerate(numbers, first)}
+    for place, piece in enumerate(texts):
+        pages[text_numbers[place]] = page_of(1, len(piece), next_=text_numbers[place + 1], body=piece)
+    for place, piece in enumerate(roots):
+        pages[roots_numbers[place]] = page_of(5, len(piece) // 8, next_=roots_numbers[place + 1], body=piece)
+    return [pages[number] for number in range(len(pages))]
+
+
+def chain(get, wanted, number):
+    """The pages of a chain. None where it comes back to one of them, so that it has no end."""
+    found, numbers = [], set()
+    while number not in numbers:
+        numbers.add(number)
+        page = get(number)
+        place = first_wrong(Wanted([wanted]), page)
+        if place is not None:
+            raise BadPage(number, place)
+        found.append(page)
+        number = int.from_bytes(page[8:12], "big")
+        if number == 0:
+            return found
+    return None
+
+
+def count_in(page):
+    return int.from_bytes(page[2:4], "big")
+
+
+def read_database(get, schema_read):
+    """The schema that pages have and the first pages of its stores; `schema_read` reads a text, or answers None."""
+    texts = chain(get, "schema", 1)
+    data = b"".join(page[HEAD : HEAD + count_in(page)] for page in texts or [])
+    size = int.from_bytes(data[:4], "big")
+    schema = schema_read(data[4 : 4 + size]) if texts and len(data) >= 4 + size else None
+    if schema is None or schema_bytes(schema) != data:
+        raise BadPage(1, 16)
+    pages = chain(get, "roots", 0)
+    rows = [page[at : at + 8] for page in pages or [] for at in range(HEAD, HEAD + 8 * count_in(page), 8)]
+    if not pages or [int.from_bytes(row[:4], "big") for row in rows] != list(stores(schema)):
+        raise BadPage(0, 16)
+    return schema, [int.from_bytes(row[4:], "big") for row in rows]
+
+
+class MemoryPages:
+    """Pages in memory: an array, what was put, and which pages were drawn. A call answers a word."""
+
+    def __init__(self, array, failing):
+        self.array, self.failing, self.calls = array, failing, 0
+        self.put_pages, self.changed, self.drawn, self.low = {}, set(), set(), 0
+
+    def fails(self):
+        self.calls += 1
+        return self.calls in self.failing
+
+    def first(self, page):
+        return self.array[page] if page < len(self.array) else bytes(SIZE)
+
+    def image(self, page):
+        return self.put_pages.get(page, self.first(page))
+
+    def get(self, page):
+        return "disk fault" if self.fails() else str(self.image(page)[0])
+
+    def put(self, page, image):
+        if self.fails():
+            return "disk fault"
+        changed = self.changed - {page} if image == self.first(page) else self.changed | {page}
+        if len(changed) > 4000:
+            return f"many {len(changed)}"
+        self.put_pages[page], self.changed = image, changed
+        return "ok"
+
+    def fresh(self):
+        if self.fails():
+            return "disk fault"
+        for page in range(self.low, PAGES):
+            if page not in self.drawn and page not in self.put_pages and not any(self.first(page)):
+                self.drawn.add(page)
+                self.low = page
+                return str(page)
+        return f"full {sum(1 for page in self.array if any(page))}"

@@ -58,6 +58,7 @@ pub fn set_last_serial<P: Pages>(
     place: Place,
     serial: u32,
 ) -> Result<(), PageFault>
+    requires extent { place.store < 65536 }
     requires first { place.first < 65536 }
     requires fair { AreFair place.key place.width }
     ensures follows { P.follows pages.old pages.new }
