@@ -136,6 +136,25 @@ def memory_answer(text):
     return " ".join(answers)
 
 
+def roots_answer(text):
+    """The pages of both chains: those of a new database, with other first pages in the roots' chain."""
+    front, _, case = text.rpartition(b"\n")
+    found = schema_of(front + b"\n")
+    if found is None:
+        return "no schema"
+    firsts = [int(word) for word in case.decode().split(",")]
+    if len(firsts) != len(stores(found)):
+        return "other stores"
+    pages = new_database(found)[: -len(firsts)]
+    roots = [page for page in pages if page[0] == 5]
+    entries = b"".join(number.to_bytes(4, "big") + first.to_bytes(4, "big") for number, first in zip(stores(found), firsts))
+    size = SIZE - 16
+    for place, root in enumerate(roots):
+        piece = entries[place * size : (place + 1) * size]
+        pages[pages.index(root)] = root[:16] + piece + bytes(size - len(piece))
+    return " ".join(f"{number}:{page.rstrip(bytes(1)).hex()}" for number, page in enumerate(pages))
+
+
 def serial_answer(text):
     """What is read of a last serial that was set: the first page is got and put, and got again."""
     front, _, case = text.rpartition(b"\n")
@@ -161,6 +180,7 @@ TABLES = {
     "databases.txt": database_answer,
     "first_pages.txt": page_answer,
     "memory.txt": memory_answer,
+    "roots.txt": roots_answer,
     "serials.txt": serial_answer,
 }
 

@@ -7,3 +7,5 @@ mod copies;
 mod edge;
 #[cfg(test)]
 mod keys;
+#[cfg(test)]
+mod pages;

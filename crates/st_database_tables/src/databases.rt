@@ -2,7 +2,7 @@
 
 use crate::edits::{Given, number};
 use crate::schemas::pages_of;
-use crate::told::{push_fault, told};
+use crate::told::{digits_of, push_fault, told};
 use st_catalog::read_database;
 use st_image::Page;
 use st_memory_pages::MemoryPages;
@@ -70,17 +70,10 @@ fn page_told(alloc: Global, pages: &[Page], text: &str) -> Result<String, AllocE
 }
 
 fn bytes_told(alloc: Global, bytes: &[u8]) -> Result<String, AllocError> {
-    let digits = hex::encode(alloc, without_zeros(bytes))?;
+    let digits = digits_of(alloc, bytes)?;
     if digits.is_empty() {
         String::from_str(alloc, " blank")
     } else {
         format!(in alloc; " {digits}")
     }
-}
-
-/// Bytes without the zeros at their end.
-fn without_zeros(bytes: &[u8]) -> &[u8] {
-    let last = bytes.iter().rposition(|byte| *byte != 0);
-    let size = last.map_or(0, |at| at.saturating_add(1));
-    &bytes[..size.min(bytes.len())]
 }

@@ -5,6 +5,7 @@
 mod databases;
 mod edits;
 mod memory;
+mod roots;
 mod schemas;
 mod serials;
 mod table;

@@ -18,7 +18,7 @@ pub fn pages_of(alloc: Global, text: &[u8]) -> Result<Option<Vec<Page>>, AllocEr
 }
 
 /// The schema of a text; want of memory where it is longer than texts may be.
-fn schema_of(alloc: Global, text: &[u8]) -> Result<Schema, SchemaFault>
+pub fn schema_of(alloc: Global, text: &[u8]) -> Result<Schema, SchemaFault>
     ensures { IfOk result (λ schema. IsShort schema) }
 {
     if text.len() > 1048576 {

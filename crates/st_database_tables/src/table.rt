@@ -2,6 +2,7 @@
 
 use crate::databases::{database_answer, page_answer};
 use crate::memory::memory_answer;
+use crate::roots::roots_answer;
 use crate::serials::serial_answer;
 use st_cases::{Asks, Case};
 use std::alloc::{AllocError, Global};
@@ -15,15 +16,18 @@ pub enum Table {
     FirstPages,
     /// Calls on pages in memory.
     Memory,
+    /// The pages of both chains of a database.
+    Roots,
     /// The last serial of a store, set and read again.
     Serials,
 }
 
 /// All tables.
-pub const TABLES: [Table; 4] = [
+pub const TABLES: [Table; 5] = [
     Table::Databases,
     Table::FirstPages,
     Table::Memory,
+    Table::Roots,
     Table::Serials,
 ];
 
@@ -34,6 +38,7 @@ impl Table {
             Table::Databases => "databases.txt",
             Table::FirstPages => "first_pages.txt",
             Table::Memory => "memory.txt",
+            Table::Roots => "roots.txt",
             Table::Serials => "serials.txt",
         }
     }
@@ -44,6 +49,7 @@ impl Asks for Table {
         match *self {
             Table::Databases => database_answer(alloc, &case.front, case.text()),
             Table::FirstPages => page_answer(alloc, &case.front, case.text()),
+            Table::Roots => roots_answer(alloc, &case.front, case.text()),
             Table::Serials => serial_answer(alloc, &case.front, case.text()),
             Table::Memory => {
                 memory_answer(

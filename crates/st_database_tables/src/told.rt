@@ -36,3 +36,15 @@ pub fn told(alloc: Global, schema: &Schema, places: &Places) -> Result<String, A
     }
     Ok(out)
 }
+
+/// The digits of bytes without the zeros at their end.
+pub fn digits_of(alloc: Global, bytes: &[u8]) -> Result<String, AllocError> {
+    hex::encode(alloc, without_zeros(bytes))
+}
+
+/// Bytes without the zeros at their end.
+fn without_zeros(bytes: &[u8]) -> &[u8] {
+    let last = bytes.iter().rposition(|byte| *byte != 0);
+    let size = last.map_or(0, |at| at.saturating_add(1));
+    &bytes[..size.min(bytes.len())]
+}
