@@ -17,10 +17,10 @@ use Rattle.st_pages.specs.declared.places.Place.{Place}
 use Rattle.st_schema.specs.Canonical.{canonical}
 use Rattle.st_schema_bytes.specs.SchemaBytes.{schema_bytes, schema_text, IsReadable}
 use Rattle.st_schema_bytes.proofs.ByteLaws.{short-bytes}
-use Rattle.st_catalog.specs.Stores.{IsPlaced}
+use Rattle.st_catalog.specs.Stores.{IsPlaced, placed}
 use Rattle.st_catalog.specs.declared.root.Root.{Root}
 use Rattle.st_catalog.specs.Catalog.{root_at, Has}
-use Rattle.st_new_database.specs.New.{roots_of, pages_for, chain_of, database_pages, place_at, places_of}
+use Rattle.st_new_database.specs.New.{roots_of, pages_for, chain_of, database_pages, root, places_of}
 use Rattle.st_new_database.proofs.Chained.{chain-length, within-pages}
 use Rattle.st_new_database.proofs.Sizes.{few-stores}
 use Rattle.st_new_database.proofs.Texts.{utf8-sound, schema-sound, schema-some}
@@ -103,7 +103,7 @@ few-roots (s ∷ ss) (f ∷ fs) = omega (arith, few-roots ss fs)
 -- ---- the places
 
 places : Outline → List ℕ → List ℕ → List Place
-places schema ss fs = map (λ pair. place_at schema pair.0 pair.1) (zip ss fs)
+places schema ss fs = map (λ pair. placed schema (root pair.0 pair.1)) (zip ss fs)
 
 places-roots : (schema : Outline) (ss fs : List ℕ) → map root_at (places schema ss fs) ≡ roots_of ss fs
 unfolding places
@@ -122,7 +122,7 @@ unfolding places
 places-placed schema [] fs h = All-nil (IsPlaced schema)
 places-placed schema (s ∷ ss) [] h = All-nil (IsPlaced schema)
 places-placed schema (s ∷ ss) (f ∷ fs) h =
-    All-cons (IsPlaced schema) (place_at schema s f) (places schema ss fs) (record { key = refl; width = refl; first = All-head (λ (f : ℕ). f < 65536) f fs h })
+    All-cons (IsPlaced schema) (placed schema (root s f)) (places schema ss fs) (record { key = refl; width = refl; first = All-head (λ (f : ℕ). f < 65536) f fs h })
     (places-placed schema ss fs (All-tail (λ (f : ℕ). f < 65536) f fs h))
 
 -- ---- all of it

@@ -8,7 +8,7 @@ use Rattle.st_image.specs.Fields.{pieces}
 use Rattle.st_pages.specs.declared.places.Place.{Place}
 use Rattle.st_schema_bytes.specs.SchemaBytes.{schema_bytes}
 use Rattle.st_catalog.specs.declared.root.Root.{Root}
-use Rattle.st_catalog.specs.Stores.{layout_of}
+use Rattle.st_catalog.specs.Stores.{placed}
 
 -- a root as bytes: its store, and its first page
 abbrev pub root_bytes : Root → List ℕ
@@ -81,11 +81,6 @@ new_firsts schema = range_with_len (behind_chains schema) (length (stores_of sch
 abbrev pub new_pages : Outline → List (List ℕ)
 new_pages schema = database_pages schema (new_firsts schema) ++ map first_page (stores_of schema)
 
--- the place of a store, with its first page
-abbrev pub place_at : Outline → ℕ → ℕ → Place
-place_at schema store first =
-    record { store = store; first = first; key = (layout_of schema store).key; width = (layout_of schema store).width }
-
 -- the places of all stores, with their first pages
 abbrev pub places_of : Outline → List ℕ → List Place
-places_of schema firsts = map (λ pair. place_at schema pair.0 pair.1) (zip (stores_of schema) firsts)
+places_of schema firsts = map (λ pair. placed schema (root pair.0 pair.1)) (zip (stores_of schema) firsts)
