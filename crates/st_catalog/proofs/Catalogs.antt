@@ -11,7 +11,7 @@ use Rattle.st_image.specs.Prefixes.{IsFirstWrong}
 use Rattle.st_pages.specs.Attempt.{Array, page_count}
 use Rattle.st_pages.specs.declared.places.Place.{Place}
 use Rattle.st_schema_bytes.specs.SchemaBytes.{schema_bytes, IsReadable}
-use Rattle.st_catalog.specs.Chains.{IsChain, Leads, BreaksAt, IsEndless}
+use Rattle.st_pages.specs.Chains.{IsChain, Leads, BreaksAt, IsEndless}
 use Rattle.st_catalog.specs.Catalog.{Has, SpellsSchema, NamesPlaces, SchemaBroken, RootsBroken, IsBroken, bytes_in, roots_in, root_at, stores_in}
 use Rattle.st_catalog.specs.Stores.{placed, IsPlaced}
 

@@ -16,7 +16,7 @@ use Rattle.st_pages.specs.Attempt.{Array}
 use Rattle.st_pages.specs.declared.places.Place.{Place}
 use Rattle.st_schema_bytes.specs.SchemaBytes.{schema_bytes, IsReadable, AreOfNone}
 use Rattle.st_catalog.specs.declared.root.Root.{Root}
-use Rattle.st_catalog.specs.Chains.{IsChain}
+use Rattle.st_pages.specs.Chains.{IsChain}
 use Rattle.st_catalog.specs.Catalog.{bytes_in, root_of, roots_in, root_at, stores_in, SpellsSchema, NamesPlaces, SpellsNone, NamesOthers}
 use Rattle.st_catalog.specs.Stores.{placed, IsPlaced}
 use Rattle.st_catalog.specs.Reading.{Walked, IsUpTo}

@@ -5,8 +5,9 @@ use Rattle.st_image.specs.Fields.{with_last_serial}
 use Rattle.st_image.specs.Grammar.{IsRowPage}
 use Rattle.st_pages.specs.Attempt.{Array, Attempt, Agrees, over, wrote}
 use Rattle.st_pages.specs.declared.places.Place.{Place}
-use Rattle.st_catalog.specs.Reading.{ForEach, SetsSerial}
-use Rattle.st_catalog.proofs.Walking.{Stays, over-same, later}
+use Rattle.st_pages.specs.Reading.{ForEach}
+use Rattle.st_catalog.specs.Reading.{SetsSerial}
+use Rattle.st_pages.proofs.Carried.{Stays, over-same, later}
 
 -- what a put leaves
 abbrev pub Put : Type 0

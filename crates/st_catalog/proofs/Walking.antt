@@ -1,43 +1,19 @@
 -- Going along a chain of pages.
-use Rattle.std.proofs.Common.{◌≡◌, ℕ, zero, suc, ◌+◌, ◌<◌, ◌≤◌, ◌==◌, ◌||◌, Bool, true, false, if◌then◌else◌, List, [], ◌∷◌, ◌++◌, length, Option, Some, None, IfSome, IsTrue, refl, sym, ap, ◌∙◌, subst, inl, inr, arith}
+use Rattle.std.proofs.Common.{◌≡◌, ℕ, zero, suc, ◌+◌, ◌<◌, ◌≤◌, ◌==◌, ◌||◌, Bool, true, false, if◌then◌else◌, List, [], ◌∷◌, ◌++◌, length, IsTrue, refl, sym, ap, ◌∙◌, subst, inl, inr, arith}
 use Rattle.std.proofs.lemmas.Bool.Decides.{nat_tests}
 use Rattle.std.proofs.lemmas.List.{length-append}
 use Rattle.std.specs.List.{list_any}
-use Rattle.st_edge.specs.Faults.{Rose}
 use Rattle.st_page.specs.declared.fault.PageFault.{PageFault}
 use Rattle.st_page.specs.declared.fault.PageFault.TheVariants.{BadPage, Conflict, Full, TooManyPages, DiskFault, Closed, Memory}
 use Rattle.st_image.specs.declared.wanted.Wanted.{Wanted}
-use Rattle.st_image.specs.declared.wanted.Wanted.TheVariants.{Free, Schema, Roots, Chain, Leaf, Node}
-use Rattle.st_image.specs.Fields.{blank, next_of}
+use Rattle.st_image.specs.Fields.{next_of}
 use Rattle.st_image.specs.Grammar.{IsPage}
 use Rattle.st_image.specs.Prefixes.{IsFirstWrong}
-use Rattle.st_pages.specs.Attempt.{Array, Attempt, over, image_or, page_count}
-use Rattle.st_pages.specs.Calls.{Met, IsWithin, only}
-use Rattle.st_catalog.specs.Chains.{IsChain, Leads, BreaksAt, IsEndless, way, is_on_way}
-use Rattle.st_catalog.specs.Reading.{ForEach, OfDamage, Walked, Stepped}
-
--- ---- what holds of each array
-
--- what was seen stays seen
-abbrev pub Stays : Attempt → Attempt → Type 0
-Stays old new = (page : ℕ) (image : List ℕ) → old.seen page ≡ Some image → new.seen page ≡ Some image
-
--- what held of each array that agreed earlier holds of each that agrees now
-pub later : (old mid new : Attempt) (Holds : Array → Type 0) → Stays mid new → ForEach old mid Holds → ForEach old new Holds
-later old mid new Holds stays each pages agrees = each pages (λ page image e. agrees page image (stays page image e))
-
--- what holds under what was written in the middle holds under what was written at first, which is the same
-pub over-same : (old mid : Attempt) (pages : Array) → mid.written ≡ old.written → over mid pages ≡ over old pages
-over-same old mid pages e = ap (λ (w : ℕ → Option (List ℕ)). λ page. image_or (pages page) (w page)) e
-
-pub under : (old mid new : Attempt) (Holds : Array → Type 0) → mid.written ≡ old.written → ForEach mid new Holds → ForEach old new Holds
-under old mid new Holds e each pages agrees = subst Holds (over-same old mid pages e) (each pages agrees)
-
--- ---- faults
-
-pub handed : (old mid new : Met) (told : Option PageFault) → old.count ≤ mid.count → IfSome told (λ f. (new.last ≡ Some f) × Rose mid.count new.count) → IfSome told (λ f. (new.last ≡ Some f) × Rose old.count new.count)
-handed old mid new None below on = tt
-handed old mid new (Some f) below on = (on.0, λ h. let up = on.1 h in omega (arith, up, below))
+use Rattle.st_pages.specs.Attempt.{Array, Attempt, over, page_count}
+use Rattle.st_pages.specs.Chains.{IsChain, Leads, BreaksAt, IsEndless, way, is_on_way}
+use Rattle.st_pages.specs.Reading.{ForEach, OfDamage}
+use Rattle.st_catalog.specs.Reading.{Walked, Stepped}
+use Rattle.st_pages.proofs.Carried.{Stays, under, later}
 
 -- ---- chains
 
@@ -116,27 +92,6 @@ is-way wanted pages first page count Had far few = on-way wanted pages first pag
 pub endless : (wanted : Wanted) (pages : Array) (first page : ℕ) (Had : List (List ℕ) → Type 0) → Far wanted pages first page 65536 Had → IsEndless wanted pages first
 unfolding page_count
 endless wanted pages first page Had far = record { images = far.images; many = far.many; end = page; leads = far.leads }
-
-same-page : (p page : ℕ) → IsTrue (p == page) → p ≡ page
-same-page p page e = grind (arith, nat_tests)
-
--- a page of a set alone
-pub only-within : (pages : ℕ → Bool) (page : ℕ) → IsTrue (pages page) → IsWithin (only page) pages
-only-within pages page here = λ p e. subst (λ q. IsTrue (pages q)) (sym (same-page p page e)) here
-
--- the page behind a page is one
-behind-blank : next_of blank ≡ 0
-unfolding blank
-behind-blank = refl
-
-pub next-is-page : (wanted : Wanted) (image : List ℕ) → IsPage wanted image → next_of image < 65536
-next-is-page Free image is = subst (λ (n : ℕ). n < 65536) (sym (ap next_of is ∙ behind-blank)) (omega arith)
-next-is-page Schema image is = let n = is.has_header.next in omega (arith, n)
-next-is-page Roots image is = let n = is.has_header.next in omega (arith, n)
-next-is-page (Chain store key width) image is = let n = is.has_header.next in omega (arith, n)
-next-is-page (Leaf store key width) image is = let n = is.has_header.next in omega (arith, n)
-next-is-page (Node store key width) image (inl is) = let n = is.has_header.next in omega (arith, n)
-next-is-page (Node store key width) image (inr is) = let n = is.has_header.next in omega (arith, n)
 
 -- ---- the error of a step
 

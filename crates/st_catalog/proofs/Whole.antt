@@ -5,10 +5,10 @@ use Rattle.st_page.specs.declared.fault.PageFault.TheVariants.{BadPage, Conflict
 use Rattle.st_lattice.specs.Outline.{Outline}
 use Rattle.st_pages.specs.Attempt.{Array, Attempt}
 use Rattle.st_pages.specs.Calls.{IsWithin}
-use Rattle.st_catalog.specs.Chains.{is_on_way}
+use Rattle.st_pages.specs.Chains.{is_on_way}
 use Rattle.st_catalog.specs.Catalog.{SpellsSchema, RootsBroken, IsBroken}
-use Rattle.st_catalog.specs.Reading.{ForEach, OfDamage}
-use Rattle.st_catalog.proofs.Walking.{Stays, under, later}
+use Rattle.st_pages.specs.Reading.{ForEach, OfDamage}
+use Rattle.st_pages.proofs.Carried.{Stays, under, later}
 
 left-of : (a b : Bool) → IsTrue a → IsTrue (a || b)
 left-of true b e = refl

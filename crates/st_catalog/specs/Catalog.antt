@@ -9,7 +9,7 @@ use Rattle.st_pages.specs.declared.places.Place.{Place}
 use Rattle.st_pages.specs.Attempt.{Array, page_count}
 use Rattle.st_schema_bytes.specs.SchemaBytes.{schema_bytes, IsReadable, AreOfNone}
 use Rattle.st_catalog.specs.declared.root.Root.{Root}
-use Rattle.st_catalog.specs.Chains.{IsChain, BreaksAt, IsEndless}
+use Rattle.st_pages.specs.Chains.{IsChain, BreaksAt, IsEndless}
 use Rattle.st_catalog.specs.Stores.{AreOf}
 
 -- the piece of the schema's bytes in a page

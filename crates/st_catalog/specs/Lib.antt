@@ -1,4 +1,3 @@
-pub mod Chains
 pub mod Stores
 pub mod Catalog
 pub mod Reading

@@ -1,22 +1,11 @@
--- What reading pages gives, for each page array that agrees with what was seen.
-use Rattle.std.specs.Prelude.{◌≡◌, ℕ, ◌<◌, ◌≤◌, ◌++◌, ◌⊎◌, ◌==◌, if◌then◌else◌, Bool, true, false, List, [], ◌∷◌, length, ⊤}
-use Rattle.st_page.specs.declared.fault.PageFault.{PageFault}
-use Rattle.st_page.specs.declared.fault.PageFault.TheVariants.{BadPage}
+-- What reading pages gives.
+use Rattle.std.specs.Prelude.{◌≡◌, ℕ, ◌<◌, ◌≤◌, ◌++◌, ◌⊎◌, ◌==◌, if◌then◌else◌, Bool, true, false, List, [], ◌∷◌, length}
 use Rattle.st_image.specs.declared.wanted.Wanted.{Wanted}
 use Rattle.st_image.specs.Fields.{next_of, last_serial_of, with_last_serial}
 use Rattle.st_image.specs.Grammar.{IsPage, IsRowPage}
-use Rattle.st_pages.specs.Attempt.{Array, Attempt, Agrees, over, page_count}
+use Rattle.st_pages.specs.Attempt.{Array, page_count}
 use Rattle.st_pages.specs.declared.places.Place.{Place}
-use Rattle.st_catalog.specs.Chains.{IsChain, IsEndless}
-
--- Something holds of each array that agrees with what was seen behind calls, under what was written in front of them.
-abbrev pub ForEach : Attempt → Attempt → (Array → Type 0) → Type 0
-ForEach old new Holds = (pages : Array) → Agrees new pages → Holds (over old pages)
-
--- what holds of the page and the place of a damaged page
-abbrev pub OfDamage : (ℕ → ℕ → Type 0) → PageFault → Type 0
-OfDamage Holds (BadPage page place) = Holds page place
-OfDamage Holds _ = ⊤
+use Rattle.st_pages.specs.Chains.{IsChain, IsEndless}
 
 -- a chain, up to its end or for as many pages as there are; of its images something holds
 abbrev pub Walked : Bool → Wanted → Array → ℕ → (List (List ℕ) → Type 0) → Type 0

@@ -2,7 +2,6 @@
 #![tactic(auto)]
 
 mod gather;
-mod get;
 mod laws;
 mod places;
 mod read;

@@ -3,9 +3,9 @@ ghost use Rattle.std.specs.Prelude.{◌≡◌, ◌≤◌, ◌<◌, ℕ, ◌||◌
 ghost use Rattle.st_lattice.specs.Stores.{row_width};
 ghost use Rattle.st_lattice.specs.Outline.{IsOrderly};
 ghost use Rattle.st_pages.specs.Calls.{HandsOn, no_page};
-ghost use Rattle.st_catalog.specs.Chains.{is_on_way};
+ghost use Rattle.st_pages.specs.Chains.{is_on_way};
 ghost use Rattle.st_catalog.specs.Catalog.{Has, SpellsSchema, NamesPlaces, SchemaBroken, RootsBroken, IsBroken};
-ghost use Rattle.st_catalog.specs.Reading.{ForEach, OfDamage};
+ghost use Rattle.st_pages.specs.Reading.{ForEach, OfDamage};
 
 use crate::gather::{Roots, SchemaBytes};
 use crate::places::{are_of, places_of};

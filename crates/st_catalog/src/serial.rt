@@ -5,12 +5,12 @@ ghost use Rattle.st_image.specs.Prefixes.{IsFirstWrong};
 ghost use Rattle.st_image.specs.declared.wanted.Wanted.TheVariants as wanted;
 ghost use Rattle.st_pages.specs.Attempt.{Array, Agrees, over};
 ghost use Rattle.st_pages.specs.Calls.{HandsOn, no_page, only};
-ghost use Rattle.st_catalog.specs.Reading.{ForEach, OfDamage, HasSerial, SetsSerial};
+ghost use Rattle.st_pages.specs.Reading.{ForEach, OfDamage};
+ghost use Rattle.st_catalog.specs.Reading.{HasSerial, SetsSerial};
 
-use crate::get::get_wanted;
 use st_image::{Page, Wanted};
 use st_page::PageFault;
-use st_pages::{Pages, Place, laws_of_attempts};
+use st_pages::{Pages, Place, get_wanted, laws_of_attempts};
 use std::alloc::Global;
 
 /// The grammar of a store's first page.

@@ -1,15 +1,15 @@
 ghost use Rattle.std.specs.Prelude.{◌≡◌, ◌<◌, [], ℕ, List, IfOk, IfErr};
 ghost use Rattle.st_image.specs.Grammar.{IsPage, IsFair};
 ghost use Rattle.st_pages.specs.Calls.{HandsOn, no_page, only};
-ghost use Rattle.st_catalog.specs.Chains.{BreaksAt, is_on_way};
+ghost use Rattle.st_pages.specs.Chains.{BreaksAt, is_on_way};
 ghost use Rattle.st_image.specs.Prefixes.{IsFirstWrong};
-ghost use Rattle.st_catalog.specs.Reading.{ForEach, OfDamage, Walked, Stepped};
+ghost use Rattle.st_pages.specs.Reading.{ForEach, OfDamage};
+ghost use Rattle.st_catalog.specs.Reading.{Walked, Stepped};
 
 use crate::gather::Gather;
-use crate::get::get_wanted;
 use st_image::{Page, Wanted};
 use st_page::PageFault;
-use st_pages::Pages;
+use st_pages::{Pages, get_wanted};
 use std::alloc::Global;
 
 /// Takes what one page of a chain has, and answers the page behind it, 0 for none.

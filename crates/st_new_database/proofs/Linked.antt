@@ -5,7 +5,7 @@ use Rattle.st_image.specs.declared.wanted.Wanted.{Wanted}
 use Rattle.st_image.specs.Fields.{next_of}
 use Rattle.st_image.specs.Grammar.{IsPage}
 use Rattle.st_pages.specs.Attempt.{Array}
-use Rattle.st_catalog.specs.Chains.{IsChain}
+use Rattle.st_pages.specs.Chains.{IsChain}
 use Rattle.st_new_database.specs.New.{page_bytes, chain_pages}
 use Rattle.st_new_database.proofs.Fields.{page-next}
 

@@ -16,7 +16,7 @@ use Rattle.st_image.proofs.Ordered.{Ordered, order-pairs}
 use Rattle.st_image.proofs.RowParts.{spelled, spelled-bytes}
 use Rattle.st_image.proofs.Zeros.{bytes-zeros}
 use Rattle.st_pages.specs.Attempt.{Array}
-use Rattle.st_catalog.specs.Chains.{IsChain}
+use Rattle.st_pages.specs.Chains.{IsChain}
 use Rattle.st_catalog.specs.declared.root.Root.{Root}
 use Rattle.st_catalog.specs.Catalog.{root_of, roots_in}
 use Rattle.st_new_database.specs.New.{root_bytes, page_bytes, pages_for, page_behind, chain_pages, chain_of}

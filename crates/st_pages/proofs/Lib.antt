@@ -1,3 +1,4 @@
 pub mod Searched
 pub mod Imaged
 pub mod Attempted
+pub mod Carried

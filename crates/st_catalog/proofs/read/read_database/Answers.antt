@@ -1,9 +1,9 @@
 use Rattle.std.proofs.Common.{ℕ, Bool, ◌||◌, arith}
 use Rattle.st_pages.specs.Attempt.{Agrees, over}
 use Rattle.st_pages.specs.Calls.{no_page}
-use Rattle.st_catalog.specs.Chains.{is_on_way}
+use Rattle.st_pages.specs.Chains.{is_on_way}
 use Rattle.st_catalog.specs.Catalog.{NamesPlaces}
-use Rattle.st_catalog.proofs.Walking.{under}
+use Rattle.st_pages.proofs.Carried.{under}
 use Rattle.st_catalog.proofs.Whole.{first-of, second-of, roots-broken}
 use Rattle.st_catalog.proofs.read.read_database.Goals as goal
 

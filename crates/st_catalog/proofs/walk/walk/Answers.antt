@@ -1,8 +1,9 @@
 use Rattle.std.proofs.Common.{◌≡◌, ◌<◌, ◌∙◌, sym, subst, arith}
 use Rattle.st_pages.specs.Attempt.{Agrees, over}
 use Rattle.st_pages.specs.Calls.{no_page, only}
-use Rattle.st_catalog.specs.Chains.{is_on_way}
-use Rattle.st_catalog.proofs.Walking.{Far, under, further, ended, is-way, endless, only-within, next-is-page, breaks, above-0}
+use Rattle.st_pages.specs.Chains.{is_on_way}
+use Rattle.st_pages.proofs.Carried.{under, only-within, next-is-page}
+use Rattle.st_catalog.proofs.Walking.{Far, further, ended, is-way, endless, breaks, above-0}
 use Rattle.st_catalog.proofs.walk.walk.Goals as goal
 
 pub returns-in-Err-clause-asked : goal.returns-in-Err-clause-asked

@@ -1,7 +1,7 @@
 use Rattle.std.proofs.Common.{◌≡◌, ◌<◌}
 use Rattle.st_pages.specs.Calls.{no_page}
-use Rattle.st_catalog.specs.Chains.{is_on_way}
-use Rattle.st_catalog.specs.Reading.{ForEach}
+use Rattle.st_pages.specs.Chains.{is_on_way}
+use Rattle.st_pages.specs.Reading.{ForEach}
 use Rattle.st_catalog.proofs.Walking.{Far}
 use Rattle.st_catalog.proofs.walk.walk.Given as goal
 

@@ -3,15 +3,19 @@ ghost use Rattle.st_image.specs.Grammar.{IsPage, IsFair};
 ghost use Rattle.st_image.specs.Prefixes.{IsFirstWrong};
 ghost use Rattle.st_page.specs.declared.fault.PageFault.TheVariants.{BadPage};
 ghost use Rattle.st_pages.specs.Calls.{HandsOn, no_page, only};
-ghost use Rattle.st_catalog.specs.Reading.{ForEach, OfDamage};
+ghost use Rattle.st_pages.specs.Reading.{ForEach, OfDamage};
 
+use crate::laws::laws_of_attempts;
+use crate::pages::Pages;
 use st_image::{Page, Wanted, check_page};
 use st_page::PageFault;
-use st_pages::{Pages, laws_of_attempts};
 use std::alloc::Global;
 
-/// Copies the image of a page into a frame.
-fn get_image<P: Pages>(
+/// Copies the image of a page into a frame: what each array that agrees with what was seen has there, under what was written.
+///
+/// # Errors
+/// Only what `get` answered; never `BadPage`.
+pub fn get_image<P: Pages>(
     alloc: Global,
     pages: &mut P,
     page: u32,
@@ -43,7 +47,10 @@ fn checked(page: u32, frame: &Page, wanted: Wanted) -> Result<(), PageFault>
 }
 
 /// Copies the image of a page, which is what is wanted, into a frame.
-pub(crate) fn get_wanted<P: Pages>(
+///
+/// # Errors
+/// `BadPage` where the page isn't what is wanted, with the first place at which it leaves that; otherwise what `get` answered.
+pub fn get_wanted<P: Pages>(
     alloc: Global,
     pages: &mut P,
     wanted: Wanted,
