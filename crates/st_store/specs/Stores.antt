@@ -2,8 +2,8 @@
 use Rattle.std.specs.Prelude.{◌≡◌, ℕ, ◌*◌, ◌<◌, ◌≤◌, ◌⊎◌, ◌==◌, ◌||◌, ◌&&◌, not, Bool, true, false, List, [], ◌∷◌, Some, None, IsSome, IsTrue, is_some}
 use Rattle.std.specs.List.{list_any}
 use Rattle.std.specs.Str.{bytes_eq}
-use Rattle.st_image.specs.Fields.{blank, count_of, last_serial_of}
-use Rattle.st_image.specs.Grammar.{AreFair}
+use Rattle.st_image.specs.Fields.{blank, last_serial_of}
+use Rattle.st_image.specs.Grammar.{AreFair, IsRowPage}
 use Rattle.st_pages.specs.declared.places.Place.{Place}
 use Rattle.st_pages.specs.Attempt.{Array, Attempt, Agrees, over, how_many, may_put, page_count}
 use Rattle.st_store.specs.declared.cursor.Cursor.{Cursor}
@@ -86,9 +86,13 @@ module _ (form : Place → Array → List ℕ → List (List ℕ) → Type 0) (s
     pub alone : was_there ≡ false → asked (reach place before) (λ other. other == page) 0
     pub same : was_there ≡ false → (other : ℕ) → after other ≡ before other
 
--- a cursor's page has room for its rows
+-- a page of rows of a store, in a chain or a tree
+abbrev pub IsRowsOf : Place → List ℕ → Type 0
+IsRowsOf place page = (kind : ℕ) × IsRowPage kind place.store place.key place.width page
+
+-- a cursor's page is one of a store's rows
 abbrev pub Fits : Place → Cursor → Type 0
-Fits place cursor = count_of cursor.page * place.width ≤ 4080
+Fits place cursor = IsRowsOf place cursor.page
 
 -- a cursor went on by a row, or there is none left
 abbrev pub Advanced : (List (List ℕ) → Type 0) → List (List ℕ) → Bool → List ℕ → Type 0

@@ -131,8 +131,6 @@ pub trait Store: Drop {
         ensures kept { OnErr result (cursor.new ≡ cursor.old) }
         ensures bad { IfErr result (OfDamage (λ page at. ForEach (P.attempt pages.old) (P.attempt pages.new) (λ array. sits (Self.location self.now) array cursor.old → bad (Self.location self.now) array page at))) };
 
-    ghost is_place: { (s : Self) → IsPlace (Self.location s) };
-
     // There is one store at a place at most.
     ghost one: { (p : Place) (a : Array) (pages others : List ℕ) (rows more : List (List ℕ)) → holds p a pages rows → holds p a others more → (pages ≡ others) × (rows ≡ more) };
 
