@@ -1,0 +1,5 @@
+pub mod Pieces
+pub mod Parts
+pub mod Reworked
+pub mod Changed
+pub mod Sibling
