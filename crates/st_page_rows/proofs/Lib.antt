@@ -3,3 +3,5 @@ pub mod Parts
 pub mod Reworked
 pub mod Changed
 pub mod Sibling
+pub mod Standing
+pub mod Halves
