@@ -4,7 +4,7 @@ use Rattle.std.proofs.lemmas.List.{append_assoc, drop-append-le, drop-drop, drop
 use Rattle.std.proofs.lemmas.Bool.{and_parts}
 use Rattle.std.proofs.lemmas.List.Folds.{list_all-append}
 use Rattle.std.specs.List.{list_all}
-use Rattle.st_image.specs.Bytes.{AreBlank, IsBytes, part}
+use Rattle.st_image.specs.Bytes.{AreBlank, IsBytes}
 use Rattle.st_image.specs.Fields.{with_part}
 use Rattle.st_image.proofs.Numbers.{bytes-append, bytes-drop, bytes-take}
 use Rattle.st_image.proofs.Written.{before-stays}

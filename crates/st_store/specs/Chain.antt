@@ -1,7 +1,8 @@
 -- A store as a chain of pages: each page names the one behind it.
-use Rattle.std.specs.Prelude.{◌≡◌, ℕ, suc, ◌^◌, ◌<◌, ◌≤◌, ◌⊎◌, ◌==◌, ◌&&◌, not, Bool, List, [], ◌∷◌, ◌++◌, take, drop, flat_map, IsTrue}
+use Rattle.std.specs.Prelude.{◌≡◌, ◌≢◌, ℕ, suc, ◌+◌, ◌-◌, ◌^◌, ◌<◌, ◌≤◌, ◌⊎◌, ◌==◌, ◌&&◌, not, Bool, List, [], ◌∷◌, ◌++◌, take, drop, flat_map, IsTrue}
 use Rattle.std.specs.List.{list_all, list_any}
 use Rattle.st_values.specs.Arranged.{ascends, each_pair}
+use Rattle.st_image.specs.Bytes.{number}
 use Rattle.st_image.specs.Fields.{count_of, next_of, last_serial_of, rows_of}
 use Rattle.st_image.specs.Grammar.{IsRowPage, row_before}
 use Rattle.st_image.specs.Prefixes.{IsFirstWrong}
@@ -30,9 +31,10 @@ Follow place array first (page ∷ other ∷ pages) =
 abbrev pub AreLater : Array → List ℕ → Type 0
 AreLater array pages = IsTrue (list_all (λ page. not (count_of (array page) == 0) && (last_serial_of (array page) == 0)) pages)
 
--- The pages of a chain, and its rows: the pages follow one another from the store's first one on, none of them twice, each
--- but the first has rows and no last serial, and the keys ascend over all of them.
+-- The pages of a chain, and its rows: the pages follow one another from the store's first one on, which is a page that there
+-- is, none of them twice, each but the first has rows and no last serial, and the keys ascend over all of them.
 pub record IsChainOf (place : Place) (array : Array) (pages : List ℕ) (rows : List (List ℕ)) : Type 0 where
+  pub first : place.first < 65536
   pub follow : Follow place array place.first pages
   pub once : IsTrue (each_pair (λ page other. not (page == other)) pages)
   pub later : AreLater array (drop 1 pages)
@@ -64,9 +66,10 @@ pub record IsBadPage (place : Place) (array : Array) (page at : ℕ) : Type 0 wh
   pub way : IsWay place array pages page
   pub wrong : IsFirstWrong (IsChainPage place) (array page) at ⊎ ((at ≡ 16) × IsChainPage place (array page) × IsMisplaced place array pages page)
 
--- whether a page is on the way of a chain; no way is longer than there are keys, but for an empty first page
+-- whether a page is on the way of a chain; each page but the first has a key more, so that there are at most so many, and
+-- one behind them that is bad
 unfoldable pub is_on_chain : Place → Array → ℕ → Bool
-is_on_chain place array page = list_any (λ other. other == page) (way (suc (256 ^ place.key)) array place.first)
+is_on_chain place array page = list_any (λ other. other == page) (way (suc (suc (256 ^ place.key))) array place.first)
 
 -- a page goes on up to a key: it is the last one, or its last key isn't below
 abbrev pub GoesUpTo : Place → Array → List ℕ → ℕ → Type 0
@@ -80,10 +83,12 @@ pub record IsSpot (place : Place) (array : Array) (row : List ℕ) (page : ℕ) 
   pub before : IsTrue (list_all (λ other. row_before place.key other row) (rows_in place array pages))
   pub up_to : GoesUpTo place array row page
 
--- a cursor stands on a page of a chain, behind so many of its rows
+-- a cursor stands on a page of a chain, which has rows if it isn't the first, behind so many of them
 pub record IsAt (place : Place) (array : Array) (cursor : Cursor) (pages : List ℕ) (page : ℕ) : Type 0 where
   pub way : IsWay place array pages page
+  pub number : cursor.number ≡ page
   pub image : array page ≡ cursor.page
+  pub filled : (pages ≡ []) ⊎ (count_of cursor.page ≢ 0)
   pub sound : IsChainPage place cursor.page
   pub ascend : IsTrue (ascends (row_before place.key) (rows_in place array (pages ++ page ∷ [])))
   pub passed : cursor.index ≤ count_of cursor.page
@@ -101,3 +106,12 @@ pub record IsAheadInChain (place : Place) (array : Array) (cursor : Cursor) (res
   pub page : ℕ
   pub sits : IsAt place array cursor pages page
   pub rest_is : rows ≡ rows_in place array pages ++ take cursor.index (rows_of place.width (array page)) ++ rest
+
+-- one above the number that the last key of rows spells, or another one where there are none
+unfoldable pub top : ℕ → ℕ → List (List ℕ) → ℕ
+top key low [] = low
+top key low (row ∷ rows) = top key (number (take key row) + 1) rows
+
+-- how many keys there are above those of the rows that a cursor passed
+abbrev pub left_in_chain : Place → Cursor → ℕ
+left_in_chain place cursor = 256 ^ place.key - top place.key 0 (take cursor.index (rows_of place.width cursor.page))

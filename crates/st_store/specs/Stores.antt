@@ -1,8 +1,8 @@
 -- What it is to be a store, whatever its form.
-use Rattle.std.specs.Prelude.{◌≡◌, ℕ, ◌*◌, ◌<◌, ◌≤◌, ◌⊎◌, ◌==◌, ◌||◌, ◌&&◌, not, Bool, true, false, List, [], ◌∷◌, Some, None, IsSome, IsTrue, is_some}
+use Rattle.std.specs.Prelude.{◌≡◌, ℕ, suc, slice_get, ◌<◌, ◌⊎◌, ◌==◌, ◌||◌, ◌&&◌, not, Bool, true, false, List, [], ◌∷◌, Some, None, IsSome, IsTrue, is_some}
 use Rattle.std.specs.List.{list_any}
 use Rattle.std.specs.Str.{bytes_eq}
-use Rattle.st_image.specs.Fields.{blank, last_serial_of}
+use Rattle.st_image.specs.Fields.{blank, last_serial_of, rows_of}
 use Rattle.st_image.specs.Grammar.{AreFair, IsRowPage}
 use Rattle.st_pages.specs.declared.places.Place.{Place}
 use Rattle.st_pages.specs.Attempt.{Array, Attempt, Agrees, over, how_many, may_put, page_count}
@@ -93,6 +93,10 @@ IsRowsOf place page = (kind : ℕ) × IsRowPage kind place.store place.key place
 -- a cursor's page is one of a store's rows
 abbrev pub Fits : Place → Cursor → Type 0
 Fits place cursor = IsRowsOf place cursor.page
+
+-- a row is the one that a cursor passed last
+abbrev pub HasPassed : Place → Cursor → List ℕ → Type 0
+HasPassed place cursor row = (index : ℕ) × (cursor.index ≡ suc index) × (slice_get (rows_of place.width cursor.page) index ≡ Some row)
 
 -- a cursor went on by a row, or there is none left
 abbrev pub Advanced : (List (List ℕ) → Type 0) → List (List ℕ) → Bool → List ℕ → Type 0

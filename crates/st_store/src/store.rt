@@ -6,7 +6,7 @@ ghost use Rattle.st_pages.specs.Calls.{HandsOn, no_page};
 ghost use Rattle.st_pages.specs.Reading.{ForEach, OfDamage};
 ghost use Rattle.st_store.specs.declared.cursor.Cursor.{Cursor};
 ghost use Rattle.st_store.specs.Rows.{AreOrdered, rows_from};
-ghost use Rattle.st_store.specs.Stores.{IsPlace, OfStore, ForBoth, Found, Inserted, Removed, HasPutStores, Fits, Advanced, among, any_page, changes, drew_between};
+ghost use Rattle.st_store.specs.Stores.{IsPlace, OfStore, ForBoth, Found, Inserted, Removed, HasPutStores, Fits, HasPassed, Advanced, among, any_page, changes, drew_between};
 
 use crate::cursor::Cursor;
 use st_page::PageFault;
@@ -42,6 +42,9 @@ pub trait Store: Drop {
     ghost sits: { Place → Array → Cursor → Type 0 };
 
     ghost ahead: { Place → Array → Cursor → List (List ℕ) → Type 0 };
+
+    // How many rows may still come behind a cursor at most, whatever stands in pages; so a loop over them ends.
+    ghost left: { Place → Cursor → ℕ };
 
     /// The store at a place.
     fn at(place: Place) -> Self
@@ -128,6 +131,8 @@ pub trait Store: Drop {
         ensures sits { OnOk result (ForEach (P.attempt pages.old) (P.attempt pages.new) (λ array. sits (Self.location self.now) array cursor.old → sits (Self.location self.now) array cursor.new)) }
         ensures next { IfOk result (λ more. ForEach (P.attempt pages.old) (P.attempt pages.new) (λ array. (rest : List (List ℕ)) → ahead (Self.location self.now) array cursor.old rest →
             Advanced (ahead (Self.location self.now) array cursor.new) rest more row.new)) }
+        ensures row { IfOk result (λ more. IsTrue more → HasPassed (Self.location self.now) cursor.new row.new) }
+        ensures fewer { IfOk result (λ more. IsTrue more → left (Self.location self.now) cursor.new < left (Self.location self.now) cursor.old) }
         ensures kept { OnErr result (cursor.new ≡ cursor.old) }
         ensures bad { IfErr result (OfDamage (λ page at. ForEach (P.attempt pages.old) (P.attempt pages.new) (λ array. sits (Self.location self.now) array cursor.old → bad (Self.location self.now) array page at))) };
 
@@ -160,6 +165,9 @@ pub trait Store: Drop {
     // What is ahead of a cursor depends on the store's pages alone.
     ghost ahead_depends: { (p : Place) (a b : Array) (pages : List ℕ) (rows : List (List ℕ)) (cursor : Cursor) (rest : List (List ℕ)) → holds p a pages rows → ((page : ℕ) → IsTrue (among pages page) → b page ≡ a page) →
         ahead p a cursor rest → ahead p b cursor rest };
+
+    // Where a cursor stands, its page is as it was when it was got, and one that calls may ask for.
+    ghost stands: { (p : Place) (a : Array) (cursor : Cursor) → sits p a cursor → (a cursor.number ≡ cursor.page) × IsTrue (reach p a cursor.number) };
 
     ghost ahead_sits: { (p : Place) (a : Array) (cursor : Cursor) (rest : List (List ℕ)) → ahead p a cursor rest → sits p a cursor };
 }

@@ -1,0 +1,14 @@
+pub mod Edits
+pub mod Keys
+pub mod Walks
+pub mod Faults
+pub mod Located
+pub mod Ahead
+pub mod Asking
+pub mod Counted
+pub mod Fronts
+pub mod Parting
+pub mod Putting
+pub mod Remade
+pub mod Leaving
+pub mod Stored
