@@ -1,8 +1,8 @@
 -- What calls keep, and what was asked for, over one call and several.
-use Rattle.std.proofs.Common.{◌≡◌, ℕ, ◌+◌, ◌<◌, ◌≤◌, ◌==◌, ◌||◌, ◌⊎◌, Bool, true, false, inl, inr, List, Option, Some, IsSome, IsTrue, Result, Ok, Err, IfOk, OnOk, OnErr, ◌^◌, ◌-◌, refl, ap, sym, subst, arith}
+use Rattle.std.proofs.Common.{◌≡◌, ℕ, ◌+◌, ◌<◌, ◌≤◌, ◌==◌, ◌||◌, ◌⊎◌, Bool, true, false, inl, inr, List, Option, Some, None, IsSome, IsTrue, Result, Ok, Err, IfOk, OnOk, OnErr, ◌^◌, ◌-◌, refl, ap, sym, ◌∙◌, subst, arith}
 use Rattle.std.specs.Option.{option_or}
 use Rattle.std.specs.Prelude.{if◌then◌else◌}
-use Rattle.std.proofs.lemmas.Bool.{ne_eqb, or_right}
+use Rattle.std.proofs.lemmas.Bool.{eqb-true, ne_eqb, or_cases, or_right}
 use Rattle.st_image.specs.Fields.{blank}
 use Rattle.st_pages.specs.Attempt.{Attempt, saw, wrote, drew, draws, page_count}
 use Rattle.st_pages.specs.Calls.{Room, MayBeDrawn, TakesOne, TakesAtMostOne, risen, HasAsked, no_page, only}
@@ -24,6 +24,7 @@ grows-saw a page image = record {
   seen = λ p first e. seen-first (p == page) (a.seen p) image first e;
   written = λ p h. h;
   drawn = λ p h. h;
+  fresh = λ p h. inl h;
 }
 
 pub grows-wrote : (a : Attempt) (page : ℕ) (image : List ℕ) → Grows a (wrote page image a)
@@ -31,14 +32,20 @@ grows-wrote a page image = record {
   seen = λ p first e. e;
   written = λ p h. some-written (p == page) (a.written p) image h;
   drawn = λ p h. h;
+  fresh = λ p h. inl h;
 }
 
-pub grows-drew : (a : Attempt) (page : ℕ) → Grows a (drew page a)
-grows-drew a page = record {
+pub grows-drew : (a : Attempt) (page : ℕ) → a.written page ≡ None → Grows a (drew page a)
+grows-drew a page none = record {
   seen = λ p first e. seen-first (p == page) (a.seen p) blank first e;
   written = λ p h. h;
   drawn = λ p h. or_right (p == page) (a.drawn p) h;
+  fresh = λ p h. unwritten p (or_cases (p == page) (a.drawn p) h);
 }
+  where
+    unwritten : (p : ℕ) → ((p == page) ≡ true) ⊎ (a.drawn p ≡ true) → IsTrue (a.drawn p) ⊎ (a.written p ≡ None)
+    unwritten p (inl e) = inr (ap a.written (eqb-true p page e) ∙ none)
+    unwritten p (inr e) = inl e
 
 -- one page was asked for
 got-or : (test : Bool) (seen : Option (List ℕ)) (other : List ℕ) (drawn : Bool) → IsSome (if test then option_or seen (Some other) else seen)
@@ -126,9 +133,9 @@ put-took (Ok x) a page old new ok err = took-most a page old new ok
 put-took (Err e) a page old new ok err = same-room old new err
 
 -- what was drawn, by the answer
-pub fresh-grows : {E : Type 0} (answer : Result ℕ E) (a b : Attempt) → IfOk answer (λ page. b ≡ drew page a) → OnErr answer (b ≡ a) → Grows a b
-fresh-grows (Ok page) a b ok err = subst (λ (n : Attempt). Grows a n) (sym ok) (grows-drew a page)
-fresh-grows (Err e) a b ok err = subst (λ (n : Attempt). Grows a n) (sym err) (grows-itself a)
+pub fresh-grows : {E : Type 0} (answer : Result ℕ E) (a b : Attempt) → IfOk answer (MayBeDrawn a) → IfOk answer (λ page. b ≡ drew page a) → OnErr answer (b ≡ a) → Grows a b
+fresh-grows (Ok page) a b may ok err = subst (λ (n : Attempt). Grows a n) (sym ok) (grows-drew a page may.written)
+fresh-grows (Err e) a b may ok err = subst (λ (n : Attempt). Grows a n) (sym err) (grows-itself a)
 
 pub fresh-asked : {E : Type 0} (answer : Result ℕ E) (a b : Attempt) → IfOk answer (MayBeDrawn a) → IfOk answer (λ page. b ≡ drew page a) → OnErr answer (b ≡ a)
     → HasAsked a b no_page no_page 1

@@ -1,5 +1,5 @@
 -- The laws of pages, of pages in memory.
-use Rattle.std.proofs.Common.{◌≡◌, ℕ, ◌+◌, ◌≤◌, ◌||◌, ◌⊎◌, Bool, true, inl, inr, Option, Some, IsSome, IsTrue, refl, ap, ◌∙◌, arith}
+use Rattle.std.proofs.Common.{◌≡◌, ℕ, ◌+◌, ◌≤◌, ◌||◌, ◌⊎◌, Bool, true, inl, inr, List, Option, Some, None, IsSome, IsTrue, refl, ap, ◌∙◌, arith}
 use Rattle.std.proofs.lemmas.Bool.{or_cases, or_left, or_right}
 use Rattle.st_pages.specs.Attempt.{Attempt, IsSound as IsSoundAttempt, Agrees, how_many, page_count}
 use Rattle.st_pages.specs.Calls.{Room, HasAsked, IsWithin, IsNoMore, IsAllRoom}
@@ -10,14 +10,26 @@ use Rattle.st_memory_pages.specs.Whole.{whole-sound, whole-room, whole-agrees, w
 
 -- an attempt grows
 pub grows-itself : (a : Attempt) → Grows a a
-grows-itself a = record { seen = λ page image e. e; written = λ page h. h; drawn = λ page h. h }
+grows-itself a = record { seen = λ page image e. e; written = λ page h. h; drawn = λ page h. h; fresh = λ page h. inl h }
 
 pub grows-on : (a b c : Attempt) → Grows a b → Grows b c → Grows a c
 grows-on a b c first second = record {
   seen = λ page image e. second.seen page image (first.seen page image e);
   written = λ page h. second.written page (first.written page h);
   drawn = λ page h. second.drawn page (first.drawn page h);
+  fresh = λ page h. elim (second.fresh page h) [
+    | inl d ↦ first.fresh page d
+    | inr e ↦ inr (none-before (a.written page) (b.written page) (first.written page) e)
+  ];
 }
+  where
+    not-some : (y : Option (List ℕ)) → IsSome y → y ≡ None → ⊥
+    not-some None h e = cc
+    not-some (Some image) h e = cc
+
+    none-before : (x y : Option (List ℕ)) → (IsSome x → IsSome y) → y ≡ None → x ≡ None
+    none-before None y h e = refl
+    none-before (Some image) y h e = absurd (not-some y (h refl) e)
 
 -- nothing was asked for
 pub asked-nothing : (a : Attempt) (got put : ℕ → Bool) → HasAsked a a got put 0

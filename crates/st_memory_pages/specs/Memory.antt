@@ -1,5 +1,5 @@
 -- What contracts see of pages in memory, and what every call keeps of them.
-use Rattle.std.specs.Prelude.{◌≡◌, ℕ, ◌≤◌, ◌==◌, Bool, List, Some, IsSome, IsTrue}
+use Rattle.std.specs.Prelude.{◌≡◌, ◌⊎◌, ℕ, ◌≤◌, ◌==◌, Bool, List, Some, None, IsSome, IsTrue}
 use Rattle.std.specs.List.{list_any}
 use Rattle.st_pages.specs.Attempt.{Array, Attempt}
 use Rattle.st_pages.specs.Calls.{Counts, Met, Room, NeverFall, risen}
@@ -25,11 +25,13 @@ memory_of pages = record {
   room = room pages.held;
 }
 
--- what was seen stays seen, what is written is written, if differently, and what was drawn stays drawn
+-- what was seen stays seen, what is written is written, if differently, what was drawn stays drawn; and what is drawn since
+-- was not written
 pub record Grows (old new : Attempt) : Type 0 where
   pub seen : (page : ℕ) (image : List ℕ) → old.seen page ≡ Some image → new.seen page ≡ Some image
   pub written : (page : ℕ) → IsSome (old.written page) → IsSome (new.written page)
   pub drawn : (page : ℕ) → IsTrue (old.drawn page) → IsTrue (new.drawn page)
+  pub fresh : (page : ℕ) → IsTrue (new.drawn page) → IsTrue (old.drawn page) ⊎ (old.written page ≡ None)
 
 -- what every call keeps: the array stays, the attempt grows, no count falls, and no more pages are left
 pub record Follows (old new : Memory) : Type 0 where

@@ -117,6 +117,8 @@ impl Pages for MemoryPages {
 
     ghost drawn_stays = { λ a b stays. stays.grows.drawn };
 
+    ghost drawn_unwritten = { λ a b stays. stays.grows.fresh };
+
     ghost never_fall = { λ a b stays. stays.counts };
 
     ghost met_never_falls = { λ a b stays. stays.met };

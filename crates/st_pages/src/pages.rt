@@ -1,4 +1,4 @@
-ghost use Rattle.std.specs.Prelude.{◌≡◌, ℕ, ◌+◌, ◌<◌, ◌≤◌, Bool, List, Option, Some, IsSome, IfSome, IsTrue, OnOk, IfOk, IfErr, OnErr};
+ghost use Rattle.std.specs.Prelude.{◌≡◌, ◌⊎◌, ℕ, ◌+◌, ◌<◌, ◌≤◌, Bool, List, Option, Some, None, IsSome, IfSome, IsTrue, OnOk, IfOk, IfErr, OnErr};
 ghost use Rattle.st_pages.specs.Attempt.{Attempt, IsSound, known, saw, wrote, drew};
 ghost use Rattle.st_pages.specs.Calls.{Met, Counts, Room, IsAllRoom, NeverFall, HasAsked, MayBeDrawn, TakesOne, TakesAtMostOne, IsNoMore, IsGetCause, IsPutCause, IsDrawCause, IsWithin, met_behind, risen, no_page, only};
 
@@ -96,6 +96,9 @@ pub trait Pages {
     ghost written_stays: { (a b : Self) → follows a b → (page : ℕ) → IsSome ((attempt a).written page) → IsSome ((attempt b).written page) };
 
     ghost drawn_stays: { (a b : Self) → follows a b → (page : ℕ) → IsTrue ((attempt a).drawn page) → IsTrue ((attempt b).drawn page) };
+
+    // What was drawn between two values wasn't written at the first one.
+    ghost drawn_unwritten: { (a b : Self) → follows a b → (page : ℕ) → IsTrue ((attempt b).drawn page) → IsTrue ((attempt a).drawn page) ⊎ ((attempt a).written page ≡ None) };
 
     ghost never_fall: { (a b : Self) → follows a b → NeverFall (counts a) (counts b) };
 

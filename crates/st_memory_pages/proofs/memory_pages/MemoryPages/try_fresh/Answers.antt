@@ -15,7 +15,7 @@ returns-clause-follows c =
     let more_faults = c.fails.ensures.faults in
     record {
       array = c.fresh.ensures.array;
-      grows = fresh-grows c.fresh.result (attempt old) (attempt new) c.fresh.ensures.ok c.fresh.ensures.err;
+      grows = fresh-grows c.fresh.result (attempt old) (attempt new) c.fresh.ensures.drawn c.fresh.ensures.ok c.fresh.ensures.err;
       counts = record { gets = omega (arith, gets); conflicts = omega arith; faults = more_faults };
       met = omega (arith, met);
       in_use = rooms.0;

@@ -1,0 +1,5 @@
+pub mod Counted
+pub mod Changes
+pub mod Called
+pub mod Placed
+pub mod Looked
