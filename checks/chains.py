@@ -1,5 +1,6 @@
 #!/usr/bin/env python3
-"""Judges the tables of calls on stores by a model: a chain of pages as a list of rows, over pages in memory.
+"""Judges the tables of calls on stores by a model: a chain of pages as a list of rows, over pages in memory, and indexes and
+inverses as lists of values with the entities that have them.
 
     checks/chains.py [--table FOLDER]
     checks/chains.py --print
@@ -13,7 +14,8 @@ import pathlib
 import sys
 
 from cases import cases_of, judge
-from paging import PAGES, SIZE, MemoryPages, Wanted, first_wrong, page_of
+from databases import schema_of
+from paging import PAGES, SIZE, Kind, MemoryPages, Wanted, first_wrong, key, new_database, page_of, stores, value_of
 
 FOLDER = pathlib.Path(__file__).resolve().parent.parent / "crates" / "st_store_tables"
 BODY = SIZE - 16
@@ -120,6 +122,18 @@ class Chain:
             self.put(page, bytes(SIZE))
         return len(others) < len(rows)
 
+    def places(self, key, page, image):
+        """The rows whose keys aren't below one, from a page on, each with its page and its place there."""
+        least = key
+        while True:
+            for index, row in enumerate(self.rows(image)):
+                if row[: self.key] >= least:
+                    yield page, 16 + index * self.width, row
+            if not self.next(image):
+                return
+            page, image = self.behind(image)
+            least = b""
+
     def listed(self, key, image):
         """The rows whose keys aren't below one, from a page on."""
         rows = [row for row in self.rows(image) if row[: self.key] >= key]
@@ -192,6 +206,117 @@ def call(chain, words, out):
             hex_list(chain, bytes.fromhex(digits), out)
 
 
+# ---- indexes and inverses
+
+
+def kind_of(kind):
+    word = {"integer": "int", "boolean": "bool", "string": f"text:{kind.of}", "entity": "entity"}[kind.name]
+    return Kind(word)
+
+
+def read_value(word):
+    """The value of a word, with what it is."""
+    if word == "null":
+        return None
+    if word in ("true", "false"):
+        return "bool", word == "true"
+    if word.startswith("'"):
+        return "text", word[1:].encode()
+    if ":" in word:
+        return "entity", tuple(map(int, word.split(":")))
+    return "int", int(word)
+
+
+def fits(kind, value):
+    if value is None or value[0] != kind.name:
+        return False
+    return {"text": lambda v: len(v) <= kind.limit, "entity": lambda v: v[1] != 0}.get(kind.name, lambda v: True)(value[1])
+
+
+class Indexes:
+    """The indexes and inverses of a new database."""
+
+    def __init__(self, schema, failing):
+        images = new_database(schema)
+        self.schema, self.kept = schema, stores(schema)
+        self.pages = MemoryPages(images, [failing])
+        self.firsts = dict(zip(self.kept, range(len(images) - len(self.kept), len(images))))
+
+    def attribute(self, number):
+        return next((a for a in self.schema.attributes if a.number == number), None)
+
+    def store(self, kind, number):
+        store = kind * PAGES + number
+        return Chain(self.pages, store, self.firsts[store], *self.kept[store]) if store in self.kept else None
+
+    def note(self, number, entity, old, new):
+        a = self.attribute(number)
+        if a is None or not entity[1] or any(v is not None and not fits(kind_of(a.kind), v) for v in (old, new)):
+            return "no values"
+        if old != new:
+            for chain in filter(None, (self.store(2, number), self.store(3, number))):
+                for value, change in ((old, chain.remove), (new, chain.insert)):
+                    if value is not None:
+                        change(key(kind_of(a.kind), value[1]) + key(Kind("entity"), entity))
+        return "ok"
+
+    def lookup(self, number, value):
+        a = self.attribute(number)
+        chain = self.store(3, number) or self.store(2, number)
+        if a is None or chain is None or not fits(kind_of(a.kind), value):
+            return []
+        kind, found = kind_of(a.kind), []
+        least = key(kind, value[1]) + key(Kind("entity"), (0, 1))
+        page, _, image = chain.locate(least)
+        for page, place, row in chain.places(least, page, image):
+            other, entity = self.pair(a, kind, page, place, row)
+            if other != value[1]:
+                break
+            found.append(entity)
+        return found
+
+    def pair(self, a, kind, page, place, row):
+        """The value and the entity in a row at a place of a page."""
+        other, wrong = value_of(kind, row[: kind.width])
+        if wrong is None:
+            entity, wrong = value_of(Kind("entity"), row[kind.width :])
+            wrong = wrong if wrong is None else wrong + kind.width
+        if wrong is None and kind.name == "entity" and not self.isa(other[0], a.kind.of):
+            wrong = 0
+        if wrong is None and not self.isa(entity[0], a.owner):
+            wrong = kind.width
+        if wrong is not None:
+            raise Fault(f"bad {page} {place + wrong}")
+        return other, entity
+
+    def isa(self, type_, ancestor):
+        return type_ < len(self.schema.types) and self.schema.isa(type_, ancestor)
+
+    def call(self, words, out):
+        match words:
+            case ["note", number, entity, old, new]:
+                out.append(self.note(int(number), tuple(map(int, entity.split(":"))), read_value(old), read_value(new)))
+            case ["lookup", number, value]:
+                found = self.lookup(int(number), read_value(value))
+                out.append(" ".join(["[", *(f"{type_}:{serial}" for type_, serial in found), "]"]))
+            case _:
+                call(Chain(self.pages, 0, 0, 1, 1), words, out)
+
+
+def run_indexes(front, text, failing):
+    """The answers of calls, and whether none was a fault."""
+    indexes, out = Indexes(schema_of(front), failing), []
+    try:
+        for part in text.split(","):
+            indexes.call(part.split(), out)
+    except Fault as fault:
+        return [*out, str(fault)], False
+    return out, True
+
+
+# ---- the tables
+
+
 def run(place, text, failing):
     """The answers of calls, and whether none was a fault."""
     store, first, key, width = place
@@ -205,24 +330,34 @@ def run(place, text, failing):
     return out, True
 
 
-def answer(text):
-    front, _, case = text.decode().rpartition("\n")
-    place = list(map(int, front.split()))
-    _, first, key, width = place
-    if first >= 100 or not 1 <= key <= min(207, width) or width > 1000:
-        return "no place"
-    if not case.startswith("each: "):
-        return " ".join(run(place, case, 0)[0])
+def in_turn(ran, text):
+    """The answers of calls; of those behind `each: ` with each call of pages failing in turn."""
+    if not text.startswith("each: "):
+        return " ".join(ran(text, 0)[0])
     lines = ["in turn"]
     for failing in range(1, MOST_CALLS):
-        out, is_whole = run(place, case[6:], failing)
+        out, is_whole = ran(text[6:], failing)
         lines.append(" ".join([f"  {failing}:", *out]))
         if is_whole:
             break
     return "\n".join(lines)
 
 
-TABLES = {"chains.txt": answer, "faults.txt": answer}
+def chain_answer(text):
+    front, _, case = text.decode().rpartition("\n")
+    place = list(map(int, front.split()))
+    _, first, key, width = place
+    if first >= 100 or not 1 <= key <= min(207, width) or width > 1000:
+        return "no place"
+    return in_turn(lambda calls, failing: run(place, calls, failing), case)
+
+
+def index_answer(text):
+    front, _, case = text.rpartition(b"\n")
+    return in_turn(lambda calls, failing: run_indexes(front + b"\n", calls, failing), case.decode())
+
+
+TABLES = {"chains.txt": chain_answer, "faults.txt": chain_answer, "indexes.txt": index_answer}
 
 
 def due():
@@ -231,7 +366,7 @@ def due():
         count = 0
         for line, text, _ in cases_of((FOLDER / "data" / name).read_text()):
             count += 1
-            yield f"{line} => {answer(text)}\n"
+            yield f"{line} => {TABLES[name](text)}\n"
         yield f"{name}: {count} cases\n\n"
 
 

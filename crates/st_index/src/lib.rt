@@ -7,4 +7,4 @@ mod reading;
 mod turned;
 
 pub use noting::note;
-pub use reading::lookup;
+pub use reading::{fits, lookup};

@@ -56,7 +56,7 @@ fn has_serial(entity: EntityId) -> bool
 }
 
 /// Whether a value has a kind, and is not too long for it.
-fn fits(value: &Value, kind: Kind) -> bool
+pub fn fits(value: &Value, kind: Kind) -> bool
     ensures so { IsTrue result → Fits kind value.now }
     ensures all { Fits kind value.now → IsTrue result }
 {
