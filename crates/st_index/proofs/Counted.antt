@@ -1,9 +1,9 @@
 -- How many pages differ, and which were drawn.
 use Rattle.std.proofs.Common.{◌≡◌, ℕ, zero, suc, ◌+◌, ◌<◌, ◌≤◌, ◌==◌, ◌||◌, Bool, true, false, if◌then◌else◌, List, Option, Some, None, IsTrue, refl, sym, ap, ◌∙◌, subst, inl, inr, arith, true≢false}
-use Rattle.std.specs.Prelude.{not, nat_le, ◌&&◌, ◌⊎◌, IsSome}
+use Rattle.std.specs.Prelude.{not, ◌&&◌, ◌⊎◌, IsSome}
 use Rattle.std.proofs.lemmas.Bool.Decides.{nat_tests}
 use Rattle.std.specs.Str.{bytes_eq}
-use Rattle.st_values.proofs.Tests.{both, left, right, either, never, not-true, not-false, one-of, first-of, other-of}
+use Rattle.st_values.proofs.Tests.{both, left, right, either, never, not-true, not-false, one-of, first-of}
 use Rattle.st_image.specs.Fields.{blank, kind_of}
 use Rattle.st_pages.specs.Attempt.{Array, Attempt, Agrees, IsSound, over, image_or, how_many, draws, may_put, is_of_store, page_count}
 use Rattle.st_pages.specs.Calls.{HasAsked, IsWithin}

@@ -4,18 +4,24 @@
 mod asked;
 mod calls;
 mod given;
+mod indexed;
 mod pages;
+mod schemas;
 mod series;
 mod store;
 
-use crate::asked::Chains;
+use crate::asked::Table;
 use st_cases::answered;
 use std::{fs, io};
 
 fn main(rt: HostRuntime) -> io::Result<()> {
-    for file in ["chains.txt", "faults.txt"] {
+    for (table, file) in [
+        (Table::Chains, "chains.txt"),
+        (Table::Chains, "faults.txt"),
+        (Table::Indexes, "indexes.txt"),
+    ] {
         let text = fs::read_to_string(&rt, file)?;
-        let answers = answered(rt.alloc(), &Chains, file, text.as_str())?;
+        let answers = answered(rt.alloc(), &table, file, text.as_str())?;
         print!(rt; "{answers}")?;
     }
     Ok(())

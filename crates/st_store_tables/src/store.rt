@@ -68,10 +68,10 @@ impl Asked {
 }
 
 /// Whether a store may stand at a place.
-fn is_place(place: Place) -> bool
+pub fn is_place(place: Place) -> bool
     ensures { IsTrue result → IsPlace place }
 {
-    place.first < 100
+    place.first < 65536
         && place.key >= 1
         && place.key <= 207
         && place.width >= place.key
@@ -91,7 +91,7 @@ pub fn asked_in(front: &str) -> Option<Asked> {
         key,
         width,
     };
-    if is_place(place) {
+    if first < 100 && is_place(place) {
         Some(Asked { place })
     } else {
         None
