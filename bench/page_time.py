@@ -10,15 +10,13 @@ with many, the least of five runs each. Prints how many MiB of pages are checked
 
 import argparse
 import pathlib
-import resource
 import shutil
-import subprocess
 import tempfile
 
-ROOT = pathlib.Path(__file__).resolve().parent.parent
+from building import built, least_time
+
 CRATE = "st_page_time"
 BELOW = ("st_text", "st_values", "st_image")
-RUNS = 5
 FEW, MANY = 1000, 200_000
 PAGE = 4096
 WANTED = 200
@@ -67,36 +65,9 @@ fn main(rt: HostRuntime) -> io::Result<()> {
 """
 
 
-def build(folder):
-    """The program, built in a folder."""
-    for name in BELOW:
-        shutil.copytree(ROOT / "crates" / name, folder / "crates" / name, ignore=shutil.ignore_patterns("must-fail"))
-    lines = [line for line in (ROOT / "crates.txt").read_text().splitlines() if line.split(":")[0] in BELOW]
-    (folder / "crates.txt").write_text("\n".join([*lines, f"{CRATE}: st_image", ""]))
-    crate = folder / "crates" / CRATE
-    (crate / "src").mkdir(parents=True)
-    (crate / "src" / "main.rt").write_text(PROGRAM)
-    ran = subprocess.run(["rt", "run"], cwd=crate, input=b"1", capture_output=True, check=False)
-    if ran.returncode:
-        raise SystemExit((ran.stdout + ran.stderr).decode())
-    return crate / "out" / CRATE
-
-
-def spent():
-    """The processor time of the programs that have ended, in seconds."""
-    used = resource.getrusage(resource.RUSAGE_CHILDREN)
-    return used.ru_utime + used.ru_stime
-
-
-def least_time(program, times):
-    """The least processor time of some runs with so many checks, in seconds."""
-    found = []
-    for _ in range(RUNS):
-        before = spent()
-        ran = subprocess.run([program], input=b"%d" % times, stdout=subprocess.PIPE, check=True)
-        found.append(spent() - before)
-        assert ran.stdout == b"0 of %d are wrong\n" % times, ran.stdout
-    return min(found)
+def taken(program, times):
+    """The processor time with so many checks, in seconds."""
+    return least_time(program, b"%d" % times, b"0 of %d are wrong\n" % times)
 
 
 def main():
@@ -104,8 +75,8 @@ def main():
     parser.add_argument("--keep", action="store_true", help="leaves the folder with the program")
     keep = parser.parse_args().keep
     folder = pathlib.Path(tempfile.mkdtemp(prefix="statice-pages-"))
-    program = build(folder)
-    seconds = (least_time(program, MANY) - least_time(program, FEW)) / (MANY - FEW)
+    program = built(folder, CRATE, BELOW, "st_image", PROGRAM, b"1")
+    seconds = (taken(program, MANY) - taken(program, FEW)) / (MANY - FEW)
     speed = PAGE / seconds / (1 << 20)
     print(f"a full leaf of 291 rows: {seconds * 1e6:.2f} microseconds, {speed:.0f} MiB/s; wanted {WANTED}")
     if keep:

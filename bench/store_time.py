@@ -12,40 +12,42 @@ the least of five runs each. At least 5 million rows a second are wanted, and tw
 
 import argparse
 import pathlib
-import resource
 import shutil
-import subprocess
 import tempfile
 
-ROOT = pathlib.Path(__file__).resolve().parent.parent
+from building import built, least_time
+
 CRATE = "st_store_time"
 BELOW = ("st_text", "st_values", "st_edge", "st_page", "st_image", "st_pages", "st_memory_pages", "st_store", "st_page_rows", "st_chain")
-RUNS = 5
 WANTED = 5_000_000
 PROGRAM = """//! Lists the rows of a store, looks for them, or puts them in, as often as its input says.
 #![tactic(auto)]
+ghost use Rattle.std.specs.Prelude.{◌≡◌, ◌<◌, IfOk, IsTrue};
+ghost use Rattle.st_store.specs.Stores.{Fits};
+ghost use Rattle.st_store.specs.Chain.{left_in_chain};
 
 use st_chain::Chain;
 use st_image::Page;
 use st_memory_pages::MemoryPages;
 use st_page::PageFault;
-use st_store::{Place, Store};
+use st_store::{Cursor, Place, Store};
 use std::alloc::{AllocError, Global};
 use std::io;
 
 /// How many rows a page has.
 const ROWS: u32 = 291;
 
-/// The place of the store.
-fn place() -> Place
-    ensures { result ≡ record { store = 131073; first = 2; key = 14; width = 14 } }
+/// The store.
+fn chain() -> Chain
+    ensures key { result.key ≡ 14 }
+    ensures width { result.width ≡ 14 }
 {
-    Place {
+    Chain::at(Place {
         store: 131073,
         first: 2,
         key: 14,
         width: 14,
-    }
+    })
 }
 
 /// The row of a number.
@@ -84,24 +86,38 @@ fn filled(alloc: Global, count: u32) -> Result<MemoryPages, AllocError> {
             break;
         }
     }
+    if images.len() > 65536 {
+        return Err(AllocError);
+    }
     MemoryPages::new(alloc, images, Vec::new(alloc))
 }
 
 /// How many rows are listed.
 fn list(alloc: Global, pages: &mut MemoryPages) -> Result<u32, PageFault> {
-    let store = Chain::at(place());
+    let store = chain();
     let mut cursor = store.seek(alloc, pages, &[0; 14])?;
-    let mut row = [0; 14];
     let mut count = 0u32;
-    while store.advance(alloc, pages, &mut cursor, &mut row)? {
-        count = count.saturating_add(u32::from(row[0] == 128));
+    while has_next(alloc, store, pages, &mut cursor)? {
+        count = count.saturating_add(1);
     }
     Ok(count)
 }
 
+/// Whether there is a next row, which is copied.
+fn has_next(alloc: Global, store: Chain, pages: &mut MemoryPages, cursor: &mut Cursor) -> Result<bool, PageFault>
+    requires width { store.width ≡ 14 }
+    requires fits { Fits store cursor.old }
+    ensures fits { Fits store cursor.new }
+    ensures fewer { IfOk result (λ more. IsTrue more → left_in_chain store cursor.new < left_in_chain store cursor.old) }
+{
+    let mut row = [0; 14];
+    let more = store.advance(alloc, pages, cursor, &mut row)?;
+    Ok(more)
+}
+
 /// How many of so many rows are there.
 fn find(alloc: Global, pages: &mut MemoryPages, count: u32) -> Result<u32, PageFault> {
-    let store = Chain::at(place());
+    let store = chain();
     let mut row = [0; 14];
     let mut found = 0u32;
     for number in 0..count {
@@ -113,7 +129,7 @@ fn find(alloc: Global, pages: &mut MemoryPages, count: u32) -> Result<u32, PageF
 
 /// Puts in rows between those that are there; how many were new.
 fn insert(alloc: Global, pages: &mut MemoryPages, count: u32) -> Result<u32, PageFault> {
-    let store = Chain::at(place());
+    let store = chain();
     let mut new = 0u32;
     for number in 0..count {
         let key = row_of(number.saturating_mul(2).saturating_add(1));
@@ -147,42 +163,22 @@ fn main(rt: HostRuntime) -> io::Result<()> {
     println!(rt; "{all}")
 }
 """
+PROOF = """use Rattle.st_store.specs.Stores.{Fits}
+use Rattle.st_store.specs.Chain.{left_in_chain}
+use Rattle.st_store_time.proofs.list.Given as goal
 
+abbrev pub invariant-loop-count : goal.invariant-loop-count
+invariant-loop-count l = Fits l.store l.cursor
 
-def build(folder):
-    """The program, built in a folder."""
-    for name in BELOW:
-        shutil.copytree(ROOT / "crates" / name, folder / "crates" / name, ignore=shutil.ignore_patterns("must-fail"))
-    lines = [line for line in (ROOT / "crates.txt").read_text().splitlines() if line.split(":")[0] in BELOW]
-    (folder / "crates.txt").write_text("\n".join([*lines, f"{CRATE}: st_page st_image st_memory_pages st_store st_chain", ""]))
-    crate = folder / "crates" / CRATE
-    (crate / "src").mkdir(parents=True)
-    (crate / "src" / "main.rt").write_text(PROGRAM)
-    ran = subprocess.run(["rt", "run"], cwd=crate, input=b"list 10 1", capture_output=True, check=False)
-    if ran.returncode:
-        raise SystemExit((ran.stdout + ran.stderr).decode())
-    return crate / "out" / CRATE
-
-
-def spent():
-    """The processor time of the programs that have ended, in seconds."""
-    used = resource.getrusage(resource.RUSAGE_CHILDREN)
-    return used.ru_utime + used.ru_stime
-
-
-def least_time(program, word, count, times):
-    """The least processor time of some runs that do something so often, in seconds."""
-    found = []
-    for _ in range(RUNS):
-        before = spent()
-        ran = subprocess.run([program], input=b"%s %d %d" % (word, count, times), stdout=subprocess.PIPE, check=True)
-        found.append(spent() - before)
-        assert ran.stdout == b"%d\n" % (count * times), ran.stdout
-    return min(found)
+abbrev pub decreases-loop-count : goal.decreases-loop-count
+decreases-loop-count l = left_in_chain l.store l.cursor
+"""
 
 
 def once(program, word, count, few, many):
-    return (least_time(program, word, count, many) - least_time(program, word, count, few)) / (many - few)
+    """The processor time of doing something once, in seconds."""
+    one, other = (least_time(program, b"%s %d %d" % (word, count, times), b"%d\n" % (count * times)) for times in (few, many))
+    return (other - one) / (many - few)
 
 
 def main():
@@ -190,7 +186,7 @@ def main():
     parser.add_argument("--keep", action="store_true", help="leaves the folder with the program")
     keep = parser.parse_args().keep
     folder = pathlib.Path(tempfile.mkdtemp(prefix="statice-stores-"))
-    program = build(folder)
+    program = built(folder, CRATE, BELOW, "st_page st_image st_memory_pages st_store st_chain", PROGRAM, b"list 10 1", [("list/Invariants.antt", PROOF)])
     seconds = once(program, b"list", 100_000, 1, 11)
     print(f"100,000 rows listed in {seconds * 1e3:.1f} ms: {100_000 / seconds / 1e6:.1f} million a second; wanted {WANTED / 1e6:.0f}")
     for word in (b"find", b"insert"):
