@@ -1,9 +1,11 @@
 """Programs that are built for a measure beside copies of the crates that they need, and the processor time that they take."""
 
+import argparse
 import pathlib
 import resource
 import shutil
 import subprocess
+import tempfile
 
 ROOT = pathlib.Path(__file__).resolve().parent.parent
 RUNS = 5
@@ -26,6 +28,21 @@ def built(folder, name, crates, uses, program, given, proofs=()):
     if ran.returncode:
         raise SystemExit((ran.stdout + ran.stderr).decode())
     return crate / "out" / name
+
+
+def measured(description, prefix, build, measure):
+    """Builds a program in a folder of its own, measures it and removes the folder; where `--keep` is given, the folder stays and
+    the program's path is printed."""
+    parser = argparse.ArgumentParser(description=description)
+    parser.add_argument("--keep", action="store_true", help="leaves the folder with the program")
+    keep = parser.parse_args().keep
+    folder = pathlib.Path(tempfile.mkdtemp(prefix=prefix))
+    program = build(folder)
+    measure(program)
+    if keep:
+        print(program)
+    else:
+        shutil.rmtree(folder)
 
 
 def spent():

@@ -8,12 +8,7 @@ The program checks the page as often as its standard input says. Its processor t
 with many, the least of five runs each. Prints how many MiB of pages are checked in a second: at least 200 are wanted.
 """
 
-import argparse
-import pathlib
-import shutil
-import tempfile
-
-from building import built, least_time
+from building import built, least_time, measured
 
 CRATE = "st_page_time"
 BELOW = ("st_text", "st_values", "st_image")
@@ -70,19 +65,18 @@ def taken(program, times):
     return least_time(program, b"%d" % times, b"0 of %d are wrong\n" % times)
 
 
-def main():
-    parser = argparse.ArgumentParser(description="Times the check of a full leaf.")
-    parser.add_argument("--keep", action="store_true", help="leaves the folder with the program")
-    keep = parser.parse_args().keep
-    folder = pathlib.Path(tempfile.mkdtemp(prefix="statice-pages-"))
-    program = built(folder, CRATE, BELOW, "st_image", PROGRAM, b"1")
+def measure(program):
+    """Prints how many MiB of full leaves the program checks in a second."""
     seconds = (taken(program, MANY) - taken(program, FEW)) / (MANY - FEW)
     speed = PAGE / seconds / (1 << 20)
     print(f"a full leaf of 291 rows: {seconds * 1e6:.2f} microseconds, {speed:.0f} MiB/s; wanted {WANTED}")
-    if keep:
-        print(program)
-    else:
-        shutil.rmtree(folder)
+
+
+def main():
+    def build(folder):
+        return built(folder, CRATE, BELOW, "st_image", PROGRAM, b"1")
+
+    measured("Times the check of a full leaf.", "statice-pages-", build, measure)
 
 
 if __name__ == "__main__":

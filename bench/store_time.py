@@ -10,12 +10,7 @@ says: `list`, `find` or `insert`, so many rows, and how often. Its processor tim
 the least of five runs each. At least 5 million rows a second are wanted, and twice the rows may take about twice the time.
 """
 
-import argparse
-import pathlib
-import shutil
-import tempfile
-
-from building import built, least_time
+from building import built, least_time, measured
 
 CRATE = "st_store_time"
 BELOW = ("st_text", "st_values", "st_edge", "st_page", "st_image", "st_pages", "st_memory_pages", "st_store", "st_page_rows", "st_chain")
@@ -181,21 +176,21 @@ def once(program, word, count, few, many):
     return (other - one) / (many - few)
 
 
-def main():
-    parser = argparse.ArgumentParser(description="Times a store that is a chain of pages.")
-    parser.add_argument("--keep", action="store_true", help="leaves the folder with the program")
-    keep = parser.parse_args().keep
-    folder = pathlib.Path(tempfile.mkdtemp(prefix="statice-stores-"))
-    program = built(folder, CRATE, BELOW, "st_page st_image st_memory_pages st_store st_chain", PROGRAM, b"list 10 1", [("list/Invariants.antt", PROOF)])
+def measure(program):
+    """Prints how fast rows are listed, and how long a row is found and put in."""
     seconds = once(program, b"list", 100_000, 1, 11)
     print(f"100,000 rows listed in {seconds * 1e3:.1f} ms: {100_000 / seconds / 1e6:.1f} million a second; wanted {WANTED / 1e6:.0f}")
     for word in (b"find", b"insert"):
         small, large = (once(program, word, count, 1, times) / count for count, times in ((1000, 11), (2000, 6)))
         print(f"{word.decode()}: {small * 1e6:.1f} microseconds in 1,000 rows, {large * 1e6:.1f} in 2,000, ratio {large / small:.2f}")
-    if keep:
-        print(program)
-    else:
-        shutil.rmtree(folder)
+
+
+def main():
+    def build(folder):
+        uses = "st_page st_image st_memory_pages st_store st_chain"
+        return built(folder, CRATE, BELOW, uses, PROGRAM, b"list 10 1", [("list/Invariants.antt", PROOF)])
+
+    measured("Times a store that is a chain of pages.", "statice-stores-", build, measure)
 
 
 if __name__ == "__main__":

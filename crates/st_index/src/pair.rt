@@ -2,13 +2,13 @@
 ghost use Rattle.std.specs.Prelude.{◌≡◌, length, IfOk, IfErr, true};
 ghost use Rattle.st_values.specs.declared.value.Kind.TheVariants as kind;
 ghost use Rattle.st_lattice.specs.Lattice.{isa};
-ghost use Rattle.st_keys.specs.Keys.{width, Fits, IsEntity};
+ghost use Rattle.st_keys.specs.Keys.{Fits, IsEntity};
 ghost use Rattle.st_rows.specs.Rows.{pair_width};
 ghost use Rattle.st_index.specs.Turned.{turned_row};
 ghost use Rattle.st_index.specs.Bad.{is_of_kind, IsPairCause};
 
 use st_lattice::{Attribute, Schema};
-use st_rows::{RowFault, read_pair};
+use st_rows::{Field, RowFault, field_width, read_pair};
 use st_values::{EntityId, Kind, Value};
 use std::alloc::Global;
 
@@ -19,18 +19,6 @@ fn is_of_kind(schema: &Schema, kind: Kind, value: &Value) -> bool
     match (kind, value) {
         (Kind::Entity(ty), Value::Entity(entity)) => schema.isa(entity.ty, ty),
         _ => true,
-    }
-}
-
-/// The place of the entity in a row: behind the value.
-fn entity_place(kind: Kind) -> u16
-    ensures { result ≡ width kind }
-{
-    match kind {
-        Kind::Int => 8,
-        Kind::Bool => 1,
-        Kind::Text(limit) => limit as u16 + 1,
-        Kind::Entity(_) => 6,
     }
 }
 
@@ -54,7 +42,7 @@ pub(crate) fn pair_in(
             }
             if !schema.isa(entity.ty, attribute.owner) {
                 return Err(RowFault::BadRow {
-                    place: entity_place(attribute.kind),
+                    place: field_width(Field::Key(attribute.kind)) as u16,
                 });
             }
             Ok((value, entity))
