@@ -1,11 +1,12 @@
 //! The last serial that was given out of a type: it stands in the first page of the type's extent.
-ghost use Rattle.std.specs.Prelude.{◌≡◌, ◌<◌, ℕ, OnOk, OnErr, IfOk, IfErr};
+ghost use Rattle.std.specs.Prelude.{◌≡◌, ◌<◌, ℕ, IsTrue, OnOk, OnErr, IfOk, IfErr};
 ghost use Rattle.st_image.specs.Grammar.{IsPage, AreFair};
 ghost use Rattle.st_image.specs.Prefixes.{IsFirstWrong};
 ghost use Rattle.st_image.specs.declared.wanted.Wanted.TheVariants as wanted;
-ghost use Rattle.st_pages.specs.Attempt.{Array, Agrees, over};
-ghost use Rattle.st_pages.specs.Calls.{HandsOn, no_page, only};
+ghost use Rattle.st_pages.specs.Attempt.{Array, Agrees, may_put, over};
+ghost use Rattle.st_pages.specs.Calls.{HandsOn, is_of_looking, no_page, only};
 ghost use Rattle.st_pages.specs.Reading.{ForEach, OfDamage};
+ghost use Rattle.st_store.specs.Stores.{HasPutStores, any_page};
 ghost use Rattle.st_catalog.specs.Reading.{HasSerial, SetsSerial};
 
 use st_image::{Page, Wanted};
@@ -34,6 +35,7 @@ pub fn last_serial<P: Pages>(alloc: Global, pages: &mut P, place: Place) -> Resu
     ensures follows { P.follows pages.old pages.new }
     ensures written { (P.attempt pages.new).written ≡ (P.attempt pages.old).written }
     ensures met { HandsOn (P.met pages.old) (P.met pages.new) result }
+    ensures looks { IfErr result (λ fault. IsTrue (is_of_looking fault)) }
     ensures asked { P.asked pages.old pages.new (only place.first) no_page 0 }
     ensures serial { IfOk result (λ serial. ForEach (P.attempt pages.old) (P.attempt pages.new) (HasSerial place serial)) }
     ensures bad { IfErr result (OfDamage (λ q at. (q ≡ place.first)
@@ -64,6 +66,7 @@ pub fn set_last_serial<P: Pages>(
     ensures follows { P.follows pages.old pages.new }
     ensures met { HandsOn (P.met pages.old) (P.met pages.new) result }
     ensures asked { P.asked pages.old pages.new (only place.first) (only place.first) 0 }
+    ensures kinds { HasPutStores (P.attempt pages.old) → P.asked pages.old pages.new any_page (may_put (P.attempt pages.new)) 0 }
     ensures set { OnOk result ((array : Array) → Agrees (P.attempt pages.new) array →
         SetsSerial place serial (over (P.attempt pages.old) array) (over (P.attempt pages.new) array)) }
     ensures kept { OnErr result ((P.attempt pages.new).written ≡ (P.attempt pages.old).written) }

@@ -9,6 +9,7 @@ pub mod Counted
 pub mod Fronts
 pub mod Parting
 pub mod Putting
+pub mod Numbered
 pub mod Remade
 pub mod Leaving
 pub mod Stored

@@ -134,6 +134,12 @@ split-of place a b d array page drawn image left_page named right_page rows is_d
 
 -- ---- a row is put into a page
 
+pub no-row : (row : List ℕ) → None ≡ Some row → ⊥
+no-row row e = cc
+
+pub no-some : (o : Option (List ℕ)) → o ≡ None → IsTrue (is_some o) → ⊥
+no-some o e h = true≢false (sym h ∙ ap is_some e)
+
 module _ (place : Place) (image row sought : List ℕ) (k index : ℕ) (e : k ≡ place.key) (f : sought ≡ take place.key row) where
   there-at : IsThere k sought (rows_of place.width image) index → IsThere place.key (take place.key row) (rows_of place.width image) index
   there-at h = subst (λ (s : List ℕ). IsThere place.key s (rows_of place.width image) index) f (subst (λ (n : ℕ). IsThere n sought (rows_of place.width image) index) e h)
@@ -153,6 +159,12 @@ module _ (place : Place) (image row sought : List ℕ) (k index : ℕ) (e : k �
       let all : length (rows_of place.width image) ≡ count_of image = rows-length place.width image in
       omega arith
 
+  pub found-at : IsThere k sought (rows_of place.width image) index → row_with place.key row (rows_of place.width image) ≡ slice_get (rows_of place.width image) index
+  found-at h = there-found place.key (take place.key row) row (rows_of place.width image) index (key-of-key place.key row) (there-at h)
+
+  pub none-at : IsAbsent k sought (rows_of place.width image) index → row_with place.key row (rows_of place.width image) ≡ None
+  none-at h = absent-none place.key (take place.key row) row (rows_of place.width image) index (key-of-key place.key row) (absent-at h)
+
   pub put-over : (a d : Attempt) (array : Array) (page : ℕ) (new : List ℕ) → IsThere k sought (rows_of place.width image) index → d ≡ wrote page new a
       → IsMade place.width image new (take index (rows_of place.width image) ++ row ∷ drop (index + 1) (rows_of place.width image))
       → (slice_get (rows_of place.width image) index ≡ Some row → new ≡ image) → over a array page ≡ image → IsPutIn place (drew_between a d) (over a array) (over d array) page image row true
@@ -164,7 +176,7 @@ module _ (place : Place) (image row sought : List ℕ) (k index : ℕ) (e : k �
         was_there = sym (there-some place.key (take place.key row) row rows index key_is h);
         same = λ found other.
             ap (λ (x : Attempt). over x array other) is
-            ∙ put-same a page new array other (at ∙ sym (same (sym (there-found place.key (take place.key row) row rows index key_is h) ∙ found)));
+            ∙ put-same a page new array other (at ∙ sym (same (sym (found-at there) ∙ found)));
         changed = inl (subst (IsEdit place (drew_between a d) (over a array) (over d array) page image) (there-with place.key (take place.key row) row rows index key_is h)
             (edit-of place a d array page image new (take index rows ++ row ∷ drop (index + 1) rows) is made));
       }
@@ -177,16 +189,13 @@ module _ (place : Place) (image row sought : List ℕ) (k index : ℕ) (e : k �
       let rows = rows_of place.width image in
       let key_is = key-of-key place.key row in
       let h = absent-at absent in
-      let none : row_with place.key row rows ≡ None = absent-none place.key (take place.key row) row rows index key_is h in
+      let none : row_with place.key row rows ≡ None = none-at absent in
       record {
         was_there = ap is_some (sym none);
-        same = λ found. absurd (nothing _ _ (sym none ∙ found));
+        same = λ found. absurd (no-row _ (sym none ∙ found));
         changed = subst (λ (r : List (List ℕ)). IsEdit place (drew_between a d) before after page image r ⊎ IsSplit place (drew_between a d) before after page image r)
             (absent-with place.key (take place.key row) row rows index key_is h) changed;
       }
-    where
-      nothing : (X : Type 0) (x : X) → None ≡ Some x → ⊥
-      nothing X x e = cc
 
 -- ---- a row is taken out of a page
 
@@ -202,6 +211,10 @@ module _ (place : Place) (image key : List ℕ) (k index : ℕ) (e : k ≡ place
       let within : index < length (rows_of place.width image) = there-within place.key key key (rows_of place.width image) index refl (there-in h) in
       let all : length (rows_of place.width image) ≡ count_of image = rows-length place.width image in
       omega arith
+
+  -- there is a row with the key
+  pub some-at : IsThere k key (rows_of place.width image) index → row_with place.key key (rows_of place.width image) ≡ None → ⊥
+  some-at h none = no-some (row_with place.key key (rows_of place.width image)) none (there-some place.key key key (rows_of place.width image) index refl (there-in h))
 
   pub taken-away : (before after : Array) (spot : Spot) (new : List ℕ) → IsThere k key (rows_of place.width image) index
       → IsMade place.width image new (take index (rows_of place.width image) ++ drop (index + 1) (rows_of place.width image))

@@ -160,6 +160,12 @@ module _ (place : Place) (before : Array) (pages : List ℕ) (rows : List (List 
             (inr (has-rows place.width edit.new (rows_below place.key row (rows_of place.width image)) (rows_above place.key row (rows_of place.width image)) row edit.made.lists)) with-ascends
         go (inr split) = put-two (with_row place.key row (rows_of place.width image)) split with-ascends
 
+-- whether a row has the key is to be seen on the page that a walk has come to
+pub found-on : (place : Place) (array : Array) (pages : List ℕ) (rows : List (List ℕ)) (key row : List ℕ) (spot : Spot) (image : List ℕ) → IsChainOf place array pages rows → IsLocated place array key spot image
+    → IsChainPage place image → take place.key key ≡ take place.key row → row_with place.key row rows ≡ row_with place.key row (rows_of place.width image)
+found-on place array pages rows key row spot image chain located sound e =
+    found-there place array pages rows row located.come.pages spot.page image (met place array pages rows key row spot image chain located sound e)
+
 pub inserted : (asked : (ℕ → Bool) → (ℕ → Bool) → ℕ → Type 0) (place : Place) (a b : Attempt) (before after : Array) (pages : List ℕ) (rows : List (List ℕ)) (key row : List ℕ) (spot : Spot) (image : List ℕ) (was : Bool)
     → IsChainOf place before pages rows → IsLocated place before key spot image → IsChainPage place image → take place.key key ≡ take place.key row → IsSome (b.written spot.page)
     → (IsTrue was → asked (is_on_chain place before) (λ other. other == spot.page) 0) → IsPutIn place (drew_between a b) before after spot.page image row was

@@ -5,7 +5,7 @@ use Rattle.st_pages.specs.declared.places.Place.{Place}
 use Rattle.st_pages.specs.Attempt.{Array, Attempt}
 use Rattle.st_page_rows.specs.PageRows.{IsSibling, Laid, SameHead}
 use Rattle.st_store.specs.Rows.{row_with, with_row, without_row}
-use Rattle.st_store.specs.Stores.{drew_between}
+use Rattle.st_store.specs.Stores.{drew_between, is_page_of}
 use Rattle.st_chain.specs.declared.walk.Spot.{Spot}
 
 -- an array is as another one, but for a page
@@ -45,6 +45,10 @@ pub record IsDrawn (a b : Attempt) (page : ℕ) : Type 0 where
   pub drew : IsTrue (drew_between a b page)
   pub seen : IsSome (b.seen page)
   pub unwritten : (other : ℕ) → IsTrue (drew_between a b other) → a.written other ≡ None
+
+-- a page is of no store that another one isn't of
+abbrev pub OfNoOther : List ℕ → List ℕ → Type 0
+OfNoOther new image = (store : ℕ) → IsTrue (is_page_of store new) → IsTrue (is_page_of store image)
 
 -- a page is as another one in front, and has these rows
 pub record IsMade (width : ℕ) (image new : List ℕ) (rows : List (List ℕ)) : Type 0 where

@@ -3,10 +3,10 @@ use Rattle.std.proofs.Common.{◌≡◌, ℕ, zero, suc, ◌<◌, ◌≤◌, ◌
 use Rattle.std.specs.Prelude.{not, ◌&&◌, slice_get}
 use Rattle.std.specs.List.{list_all, list_any}
 use Rattle.std.proofs.lemmas.Bool.{eqb-true}
-use Rattle.st_values.specs.Arranged.{ascends}
+use Rattle.st_values.specs.Arranged.{ascends, each_pair}
 use Rattle.st_values.proofs.Tests.{both, either, first-of, left, one-of, other-of, right}
 use Rattle.st_image.specs.Fields.{count_of, kind_of, last_serial_of, next_of, store_of, rows_of, with_last_serial}
-use Rattle.st_image.specs.Grammar.{HasHeader, row_before, rows_header}
+use Rattle.st_image.specs.Grammar.{HasHeader, IsRowPage, row_before, rows_header}
 use Rattle.st_image.proofs.Written.{serial-stays, wrong-not}
 use Rattle.st_pages.specs.declared.places.Place.{Place}
 use Rattle.st_pages.specs.Attempt.{Array}
@@ -78,6 +78,12 @@ bear p a pages rows page chain here =
     let fields : HasHeader (rows_header 2 p.store p.width) (a page) = sound.has_header in
     let kind : kind_of (a page) ≡ 2 = fields.kind in
     (follow-within p a p.first pages page chain.first chain.follow here, fields.store, omega (arith, kind), omega (arith, kind))
+
+pub once : (p : Place) (a : Array) (pages : List ℕ) (rows : List (List ℕ)) → IsChainOf p a pages rows → IsTrue (each_pair (λ page other. not (page == other)) pages)
+once p a pages rows chain = chain.once
+
+pub extent-first : (p : Place) (a : Array) (pages : List ℕ) (rows : List (List ℕ)) → IsChainOf p a pages rows → p.store < 65536 → IsRowPage 2 p.store p.key p.width (a p.first)
+extent-first p a pages rows chain extent = follow-sound p a p.first pages p.first chain.follow (has-first p a pages rows chain)
 
 -- ---- in other arrays
 

@@ -3,7 +3,7 @@ ghost use Rattle.std.specs.Prelude.{◌≡◌, ◌↔◌, ◌<◌, ℕ, List, fa
 ghost use Rattle.st_page.specs.declared.fault.PageFault.TheVariants.{BadPage};
 ghost use Rattle.st_image.specs.Fields.{count_of, next_of, rows_of};
 ghost use Rattle.st_image.specs.declared.wanted.Wanted.TheVariants as wanted;
-ghost use Rattle.st_pages.specs.Calls.{HandsOn, no_page, only};
+ghost use Rattle.st_pages.specs.Calls.{HandsOn, is_of_looking, no_page, only};
 ghost use Rattle.st_pages.specs.Reading.{ForEach, OfDamage};
 ghost use Rattle.st_store.specs.Stores.{IsPlace, IsRowsOf};
 ghost use Rattle.st_store.specs.Chain.{IsChainPage};
@@ -74,6 +74,7 @@ fn checked(place: Place, page: u32, frame: &Page, next: &Page) -> Result<(), Pag
     requires sound { IsRowsOf place frame.now }
     requires next_sound { IsChainPage place next.now }
     ensures above { OnOk result (IsAbove place frame.now next.now) }
+    ensures looks { IfErr result (λ fault. IsTrue (is_of_looking fault)) }
     ensures bad { IfErr result (λ fault. (fault ≡ BadPage page 16) × (IsAbove place frame.now next.now → ⊥)) }
 {
     if is_above(place, frame, next) {
@@ -95,6 +96,7 @@ pub(crate) fn next_page<P: Pages>(
     ensures follows { P.follows pages.old pages.new }
     ensures written { (P.attempt pages.new).written ≡ (P.attempt pages.old).written }
     ensures met { HandsOn (P.met pages.old) (P.met pages.new) result }
+    ensures looks { IfErr result (λ fault. IsTrue (is_of_looking fault)) }
     ensures asked { P.asked pages.old pages.new (only (next_of frame.old)) no_page 0 }
     ensures image { OnOk result (ForEach (P.attempt pages.old) (P.attempt pages.new) (λ array. array (next_of frame.old) ≡ frame.new)) }
     ensures seen { OnOk result (IsSome ((P.attempt pages.new).seen (next_of frame.old))) }

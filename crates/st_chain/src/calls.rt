@@ -1,5 +1,5 @@
 //! Calls of pages, one or two in a row.
-ghost use Rattle.std.specs.Prelude.{◌≡◌, OnOk, IfOk, IfErr, IsSome};
+ghost use Rattle.std.specs.Prelude.{◌≡◌, ◌⊎◌, OnOk, OnErr, IfOk, IfErr, IsSome};
 ghost use Rattle.st_pages.specs.Attempt.{wrote};
 ghost use Rattle.st_pages.specs.Calls.{HandsOn, no_page, only};
 ghost use Rattle.st_pages.specs.Reading.{OfDamage};
@@ -22,13 +22,14 @@ pub(crate) fn put_one<P: Pages>(
     ensures met { HandsOn (P.met pages.old) (P.met pages.new) result }
     ensures asked { P.asked pages.old pages.new no_page (only page) 0 }
     ensures ok { OnOk result (P.attempt pages.new ≡ wrote page image.now (P.attempt pages.old)) }
+    ensures err { OnErr result (P.attempt pages.new ≡ P.attempt pages.old) }
     ensures bad { IfErr result (OfDamage (λ q place. ⊥)) }
 {
     laws_of_attempts();
     pages.put(alloc, page, image)
 }
 
-/// Puts images of two pages, one after the other.
+/// Puts images of two pages, one after the other. At an error neither is put, or the first one.
 pub(crate) fn put_both<P: Pages>(
     alloc: Global,
     pages: &mut P,
@@ -43,6 +44,7 @@ pub(crate) fn put_both<P: Pages>(
     ensures met { HandsOn (P.met pages.old) (P.met pages.new) result }
     ensures asked { P.asked pages.old pages.new no_page (either_of page second) 0 }
     ensures ok { OnOk result (P.attempt pages.new ≡ wrote second other.now (wrote page image.now (P.attempt pages.old))) }
+    ensures err { OnErr result ((P.attempt pages.new ≡ P.attempt pages.old) ⊎ (P.attempt pages.new ≡ wrote page image.now (P.attempt pages.old))) }
     ensures bad { IfErr result (OfDamage (λ q place. ⊥)) }
 {
     match put_one(alloc, pages, page, image) {

@@ -66,6 +66,10 @@ impl Store for Chain {
 
     ghost bear = { laws.bear };
 
+    ghost once = { laws.once };
+
+    ghost extent_first = { laws.extent-first };
+
     ghost depends = { laws.depends };
 
     ghost any_serial = { laws.any-serial };

@@ -1,11 +1,12 @@
 //! How a row is put into a page of a chain.
-ghost use Rattle.std.specs.Prelude.{◌≡◌, ◌+◌, ◌*◌, ◌<◌, ◌≤◌, ◌⊎◌, ◌∷◌, ◌++◌, length, take, drop, slice_get, Some, OnOk, IfOk, IfErr, IsSome, IsTrue};
+ghost use Rattle.std.specs.Prelude.{◌≡◌, ◌+◌, ◌*◌, ◌<◌, ◌≤◌, ◌⊎◌, ◌∷◌, ◌++◌, length, take, drop, slice_get, is_some, Some, OnOk, OnErr, IfOk, IfErr, IsSome, IsTrue};
 ghost use Rattle.st_image.specs.Fields.{kind_of, count_of, rows_of};
 ghost use Rattle.st_page_rows.specs.PageRows.{Laid};
 ghost use Rattle.st_pages.specs.Attempt.{wrote};
 ghost use Rattle.st_pages.specs.Calls.{HandsOn, no_page, only};
 ghost use Rattle.st_pages.specs.Reading.{OfDamage};
-ghost use Rattle.st_store.specs.Stores.{ForBoth, IsPlace, drew_between};
+ghost use Rattle.st_store.specs.Rows.{row_with};
+ghost use Rattle.st_store.specs.Stores.{ForBoth, IsPlace, IsSame, KeepNumbers, drew_between};
 ghost use Rattle.st_store.specs.Chain.{IsChainPage};
 ghost use Rattle.st_chain.specs.Changes.{IsEdit, IsMade, IsParted, IsPutIn, IsSplit, page_or_drawn};
 
@@ -60,6 +61,7 @@ fn split<P: Pages>(
     ensures put { OnOk result (IsSome ((P.attempt pages.new).written page)) }
     ensures split { OnOk result (ForBoth (P.attempt pages.old) (P.attempt pages.new) (λ before after. before page ≡ frame.old →
         IsSplit place (drew_between (P.attempt pages.old) (P.attempt pages.new)) before after page frame.old (take index (rows_of place.width frame.old) ++ row.now ∷ drop index (rows_of place.width frame.old)))) }
+    ensures numbers { ForBoth (P.attempt pages.old) (P.attempt pages.new) (λ before after. before page ≡ frame.old → KeepNumbers (P.attempt pages.old) (P.attempt pages.new) before after) }
     ensures bad { IfErr result (OfDamage (λ q place. ⊥)) }
 {
     let drawn = match draw(alloc, pages) {
@@ -94,6 +96,7 @@ fn add<P: Pages>(
     ensures added { OnOk result (ForBoth (P.attempt pages.old) (P.attempt pages.new) (λ before after. before page ≡ frame.old →
         IsEdit place (drew_between (P.attempt pages.old) (P.attempt pages.new)) before after page frame.old (take index (rows_of place.width frame.old) ++ row.now ∷ drop index (rows_of place.width frame.old))
         ⊎ IsSplit place (drew_between (P.attempt pages.old) (P.attempt pages.new)) before after page frame.old (take index (rows_of place.width frame.old) ++ row.now ∷ drop index (rows_of place.width frame.old)))) }
+    ensures numbers { ForBoth (P.attempt pages.old) (P.attempt pages.new) (λ before after. before page ≡ frame.old → KeepNumbers (P.attempt pages.old) (P.attempt pages.new) before after) }
     ensures bad { IfErr result (OfDamage (λ q place. ⊥)) }
 {
     let width = place.width as usize;
@@ -123,6 +126,7 @@ fn replace<P: Pages>(
     ensures met { HandsOn (P.met pages.old) (P.met pages.new) result }
     ensures asked { P.asked pages.old pages.new no_page (only page) 0 }
     ensures ok { OnOk result (P.attempt pages.new ≡ wrote page frame.new (P.attempt pages.old)) }
+    ensures err { OnErr result (P.attempt pages.new ≡ P.attempt pages.old) }
     ensures made { IsMade place.width frame.old frame.new (take index (rows_of place.width frame.old) ++ row.now ∷ drop (index + 1) (rows_of place.width frame.old)) }
     ensures same { slice_get (rows_of place.width frame.old) index ≡ Some row.now → frame.new ≡ frame.old }
     ensures bad { IfErr result (OfDamage (λ q place. ⊥)) }
@@ -151,6 +155,10 @@ pub(crate) fn put_in<P: Pages>(
     ensures put { OnOk result (IsSome ((P.attempt pages.new).written page)) }
     ensures put_in { IfOk result (λ was. ForBoth (P.attempt pages.old) (P.attempt pages.new) (λ before after. before page ≡ frame.old →
         IsPutIn place (drew_between (P.attempt pages.old) (P.attempt pages.new)) before after page frame.old row.now was)) }
+    ensures there { IsTrue (is_some (row_with place.key row.now (rows_of place.width frame.old))) → P.asked pages.old pages.new no_page (only page) 0 }
+    ensures same { row_with place.key row.now (rows_of place.width frame.old) ≡ Some row.now →
+        ForBoth (P.attempt pages.old) (P.attempt pages.new) (λ before after. before page ≡ frame.old → IsSame before after) }
+    ensures numbers { ForBoth (P.attempt pages.old) (P.attempt pages.new) (λ before after. before page ≡ frame.old → KeepNumbers (P.attempt pages.old) (P.attempt pages.new) before after) }
     ensures bad { IfErr result (OfDamage (λ q place. ⊥)) }
 {
     let width = place.width as usize;

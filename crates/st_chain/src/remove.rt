@@ -1,11 +1,12 @@
 //! How a row is taken out of a page of a chain.
-ghost use Rattle.std.specs.Prelude.{◌≡◌, ◌<◌, ◌⊎◌, length, false, OnOk, IfOk, IfErr, IfSome, IsSome};
-ghost use Rattle.st_image.specs.Fields.{next_of};
+ghost use Rattle.std.specs.Prelude.{◌≡◌, ◌<◌, ◌⊎◌, length, false, None, OnOk, IfOk, IfErr, IfSome, IsSome};
+ghost use Rattle.st_image.specs.Fields.{next_of, rows_of};
 ghost use Rattle.st_pages.specs.Calls.{HandsOn, no_page, only};
 ghost use Rattle.st_pages.specs.Reading.{OfDamage};
-ghost use Rattle.st_store.specs.Stores.{ForBoth, IsPlace};
+ghost use Rattle.st_store.specs.Rows.{row_with};
+ghost use Rattle.st_store.specs.Stores.{ForBoth, IsPlace, IsSame, KeepNumbers};
 ghost use Rattle.st_store.specs.Chain.{IsChainPage};
-ghost use Rattle.st_chain.specs.Changes.{IsGone, IsKept, IsTakenOut, IsUnlinked, either_of, is_previous, spot_or_previous};
+ghost use Rattle.st_chain.specs.Changes.{IsGone, IsKept, IsTakenOut, IsUnlinked, OfNoOther, either_of, is_previous, spot_or_previous};
 
 use crate::calls::{put_both, put_one};
 use crate::walk::Spot;
@@ -30,6 +31,7 @@ fn unlink<P: Pages>(
     ensures asked { P.asked pages.old pages.new (only previous) (either_of previous page) 0 }
     ensures put { OnOk result (IsSome ((P.attempt pages.new).written page)) }
     ensures unlinked { OnOk result (ForBoth (P.attempt pages.old) (P.attempt pages.new) (λ before after. IsUnlinked before after previous page next)) }
+    ensures numbers { ForBoth (P.attempt pages.old) (P.attempt pages.new) (λ before after. KeepNumbers (P.attempt pages.old) (P.attempt pages.new) before after) }
     ensures bad { IfErr result (OfDamage (λ q place. ⊥)) }
 {
     let mut frame = Page::blank();
@@ -51,6 +53,7 @@ fn leave<P: Pages>(alloc: Global, pages: &mut P, spot: Spot, frame: &Page) -> Re
     ensures put { OnOk result (IsSome ((P.attempt pages.new).written spot.page)) }
     ensures left { OnOk result (ForBoth (P.attempt pages.old) (P.attempt pages.new) (λ before after.
         IsKept before after spot frame.now ⊎ IsGone before after spot frame.now)) }
+    ensures numbers { ForBoth (P.attempt pages.old) (P.attempt pages.new) (λ before after. OfNoOther frame.now (before spot.page) → KeepNumbers (P.attempt pages.old) (P.attempt pages.new) before after) }
     ensures bad { IfErr result (OfDamage (λ q place. ⊥)) }
 {
     match spot.previous {
@@ -87,6 +90,9 @@ pub(crate) fn take_out<P: Pages>(
     ensures put { OnOk result (IsSome ((P.attempt pages.new).written spot.page)) }
     ensures taken { IfOk result (λ was. ForBoth (P.attempt pages.old) (P.attempt pages.new) (λ before after. before spot.page ≡ frame.old →
         IsTakenOut place before after spot frame.old key.now was)) }
+    ensures same { row_with place.key key.now (rows_of place.width frame.old) ≡ None →
+        ForBoth (P.attempt pages.old) (P.attempt pages.new) (λ before after. before spot.page ≡ frame.old → IsSame before after) }
+    ensures numbers { ForBoth (P.attempt pages.old) (P.attempt pages.new) (λ before after. before spot.page ≡ frame.old → KeepNumbers (P.attempt pages.old) (P.attempt pages.new) before after) }
     ensures bad { IfErr result (OfDamage (λ q place. ⊥)) }
 {
     let width = place.width as usize;

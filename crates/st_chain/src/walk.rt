@@ -1,6 +1,6 @@
 //! The walk along a chain up to a key.
 ghost use Rattle.std.specs.Prelude.{◌≡◌, ◌<◌, length, IsSome, IsTrue, IfSome, IfOk, IfErr, OnOk};
-ghost use Rattle.st_pages.specs.Calls.{HandsOn, no_page};
+ghost use Rattle.st_pages.specs.Calls.{HandsOn, is_of_looking, no_page};
 ghost use Rattle.st_pages.specs.Reading.{ForEach, OfDamage};
 ghost use Rattle.st_store.specs.Stores.{IsPlace};
 ghost use Rattle.st_store.specs.Chain.{IsChainPage, IsBadPage, is_on_chain};
@@ -32,6 +32,7 @@ pub(crate) fn locate<P: Pages>(
     ensures follows { P.follows pages.old pages.new }
     ensures written { (P.attempt pages.new).written ≡ (P.attempt pages.old).written }
     ensures met { HandsOn (P.met pages.old) (P.met pages.new) result }
+    ensures looks { IfErr result (λ fault. IsTrue (is_of_looking fault)) }
     ensures asked { ForEach (P.attempt pages.old) (P.attempt pages.new) (λ array. P.asked pages.old pages.new (is_on_chain place array) no_page 0) }
     ensures sound { OnOk result (IsChainPage place frame.new) }
     ensures located { IfOk result (λ spot. ForEach (P.attempt pages.old) (P.attempt pages.new) (λ array. IsLocated place array key.now spot frame.new)) }

@@ -14,10 +14,10 @@ use Rattle.st_pages.specs.Attempt.{Array, Attempt, Agrees, IsSound, over, may_pu
 use Rattle.st_pages.specs.Calls.{HasAsked, IsWithin}
 use Rattle.st_pages.specs.Reading.{ForEach, OfDamage}
 use Rattle.st_pages.proofs.Carried.{Stays}
-use Rattle.st_store.specs.Stores.{HasPutStores, ForBoth, OfStore, any_page, among, drew_between}
+use Rattle.st_store.specs.Stores.{Changed, HasPutStores, ForBoth, KeepNumbers, OfStore, any_page, among, drew_between}
 use Rattle.st_index.specs.Noted.{AllHold, IsNoted, reach_any, differences}
-use Rattle.st_index.specs.Change.{AreApart, IsChange, Moved}
-use Rattle.st_index.proofs.Counted.{Drawn, or-cases, differences-then, none-drawn, drew-first, drew-second, drew-blank, may-stay, puts-stay}
+use Rattle.st_index.specs.Change.{AreApart, Moved}
+use Rattle.st_index.proofs.Counted.{Drawn, or-cases, differences-then, none-drawn, drew-first, drew-second, drew-blank, may-stay, numbers-then, puts-stay}
 use Rattle.st_index.proofs.Changes.{Laws, bad-weaken, change-then, moved-then, hold-later, reach-later, all-first, all-second}
 
 -- agreement with what was seen later
@@ -58,8 +58,8 @@ module _ {Self : Type 0} (attempt : Self → Attempt) (follows : Self → Self �
 
   -- ---- one store
 
-  module _ (form : Place → Array → List ℕ → List (List ℕ) → Type 0) (reach : Place → Array → ℕ → Bool) (stores : Laws form reach) where
-    pub one-asked : (place : Place) (before mid : Array) (pages : List ℕ) (rows more : List (List ℕ)) (n : ℕ) → form place before pages rows → IsChange form reach place (attempt a) (attempt b) before mid pages more
+  module _ (form : Place → Array → List ℕ → List (List ℕ) → Type 0) (spot : Place → Array → List ℕ → ℕ → Type 0) (reach : Place → Array → ℕ → Bool) (stores : Laws form reach) where
+    pub one-asked : (place : Place) (before mid : Array) (pages : List ℕ) (rows more : List (List ℕ)) (n : ℕ) → form place before pages rows → Changed form spot (asked a b) reach place (attempt a) (attempt b) before mid pages more
         → asked a b (reach place before) (reach place before) 0 → asked b c (reach place mid) (λ page. reach place mid page || drew_between (attempt b) (attempt c) page) n
         → asked a c (reach place before) (λ page. reach place before page || drew_between (attempt a) (attempt c) page) n
     one-asked place before mid pages rows more n holds x first second =
@@ -81,21 +81,22 @@ module _ {Self : Type 0} (attempt : Self → Attempt) (follows : Self → Self �
         (omega arith) first second
 
     pub changed-then : (place : Place) (f g : List (List ℕ) → List (List ℕ)) (answer : Result Unit PageFault)
-        → ForBoth (attempt a) (attempt b) (λ before mid. OfStore form place before (λ had rows. IsChange form reach place (attempt a) (attempt b) before mid had (f rows)))
-        → OnOk answer (ForBoth (attempt b) (attempt c) (λ mid after. OfStore form place mid (λ had rows. IsChange form reach place (attempt b) (attempt c) mid after had (g rows))))
-        → OnOk answer (ForBoth (attempt a) (attempt c) (λ before after. OfStore form place before (λ had rows. IsChange form reach place (attempt a) (attempt c) before after had (g (f rows)))))
+        → ForBoth (attempt a) (attempt b) (λ before mid. OfStore form place before (λ had rows. Changed form spot (asked a b) reach place (attempt a) (attempt b) before mid had (f rows)))
+        → OnOk answer (ForBoth (attempt b) (attempt c) (λ mid after. OfStore form place mid (λ had rows. Changed form spot (asked b c) reach place (attempt b) (attempt c) mid after had (g rows))))
+        → OnOk answer (ForBoth (attempt a) (attempt c) (λ before after. OfStore form place before (λ had rows. Changed form spot (asked a c) reach place (attempt a) (attempt c) before after had (g (f rows)))))
     changed-then place f g (Ok u) first second = λ pages agrees had rows holds.
         let A = attempt a in
         let B = attempt b in
         let C = attempt c in
         let x = first pages (earlier B C pages (laws.seen_stays b c bc) agrees) had rows holds in
         let y = second pages agrees x.pages_now (f rows) x.has in
-        change-then form reach place A B C (laws.drawn_stays a b ab) (laws.drawn_stays b c bc) (over A pages) (over B pages) (over C pages) had (f rows) (g (f rows)) x y
+        change-then form spot reach (asked a b) (asked b c) (asked a c) place A B C (laws.drawn_stays a b ab) (laws.drawn_stays b c bc) (over A pages) (over B pages) (over C pages) had (f rows) (g (f rows))
+        (drew-blank A C pages (laws.is_sound c) (laws.drawn_unwritten a c (laws.follows_on a b c ab bc)) agrees) x y
     changed-then place f g (Err fault) first second = tt
 
     pub bad-then : (place : Place) (f : List (List ℕ) → List (List ℕ)) (bad : Place → Array → ℕ → ℕ → Type 0)
         → ((p : Place) (array : Array) (pages : List ℕ) (rows : List (List ℕ)) (page at : ℕ) → bad p array page at → form p array pages rows → ⊥) → (answer : Result Unit PageFault)
-        → ForBoth (attempt a) (attempt b) (λ before mid. OfStore form place before (λ had rows. IsChange form reach place (attempt a) (attempt b) before mid had (f rows)))
+        → ForBoth (attempt a) (attempt b) (λ before mid. OfStore form place before (λ had rows. Changed form spot (asked a b) reach place (attempt a) (attempt b) before mid had (f rows)))
         → IfErr answer (OfDamage (λ page at. ForEach (attempt b) (attempt c) (λ array. bad place array page at)))
         → IfErr answer (OfDamage (λ page at. ForEach (attempt a) (attempt c) (λ array. OfStore form place array (λ _ _. ⊥))))
     bad-then place f bad never answer first second =
@@ -105,8 +106,22 @@ module _ {Self : Type 0} (attempt : Self → Attempt) (follows : Self → Self �
         never place (over (attempt b) pages) x.pages_now (f rows) page at (wrong pages agrees) x.has)
         second
 
-    -- ---- several stores
+    pub one-numbers : (place : Place) (f : List (List ℕ) → List (List ℕ))
+        → ForBoth (attempt a) (attempt b) (λ before mid. OfStore form place before (λ had rows. Changed form spot (asked a b) reach place (attempt a) (attempt b) before mid had (f rows)))
+        → ForBoth (attempt a) (attempt b) (λ before mid. OfStore form place before (λ _ _. KeepNumbers (attempt a) (attempt b) before mid))
+        → ForBoth (attempt b) (attempt c) (λ mid after. OfStore form place mid (λ _ _. KeepNumbers (attempt b) (attempt c) mid after))
+        → ForBoth (attempt a) (attempt c) (λ before after. OfStore form place before (λ _ _. KeepNumbers (attempt a) (attempt c) before after))
+    one-numbers place f changed first second = λ pages agrees had rows holds.
+        let A = attempt a in
+        let B = attempt b in
+        let C = attempt c in
+        let mid = earlier B C pages (laws.seen_stays b c bc) agrees in
+        let x = changed pages mid had rows holds in
+        numbers-then A B C (laws.drawn_stays a b ab) (laws.drawn_stays b c bc) (over A pages) (over B pages) (over C pages) (first pages mid had rows holds) (second pages agrees x.pages_now (f rows) x.has)
 
+  -- ---- several stores
+
+  module _ (form : Place → Array → List ℕ → List (List ℕ) → Type 0) (reach : Place → Array → ℕ → Bool) (stores : Laws form reach) where
     module _ (ps qs : List Place) (apart : AreApart ps qs) (change : List (List ℕ) → List (List ℕ))
         (first : ForBoth (attempt a) (attempt b) (λ before mid. AllHold form reach ps before → Moved form reach ps change (attempt a) (attempt b) before mid)) where
       any-in : (array : Array) (page : ℕ) → reach_any form reach (ps ++ qs) array page ≡ (reach_any form reach ps array page || reach_any form reach qs array page)
@@ -167,6 +182,21 @@ module _ {Self : Type 0} (attempt : Self → Attempt) (follows : Self → Self �
           (drew-blank A C pages (laws.is_sound c) (laws.drawn_unwritten a c (laws.follows_on a b c ab bc)) agrees)
       both-moved (Err fault) second = tt
 
+      pub both-numbers : ForBoth (attempt a) (attempt b) (λ before mid. AllHold form reach ps before → KeepNumbers (attempt a) (attempt b) before mid)
+          → ForBoth (attempt b) (attempt c) (λ mid after. AllHold form reach qs mid → KeepNumbers (attempt b) (attempt c) mid after)
+          → ForBoth (attempt a) (attempt c) (λ before after. AllHold form reach (ps ++ qs) before → KeepNumbers (attempt a) (attempt c) before after)
+      both-numbers one two = λ pages agrees all.
+          let A = attempt a in
+          let B = attempt b in
+          let C = attempt c in
+          let Hold : Place → Type 0 = λ p. (had : List ℕ) × (rows : List (List ℕ)) × form p (over A pages) had rows in
+          let held-ps : AllHold form reach ps (over A pages) = all-first Hold ps qs all in
+          let held-qs : AllHold form reach qs (over A pages) = all-second Hold ps qs all in
+          let agrees-b = earlier B C pages (laws.seen_stays b c bc) agrees in
+          let x = first pages agrees-b held-ps in
+          numbers-then A B C (laws.drawn_stays a b ab) (laws.drawn_stays b c bc) (over A pages) (over B pages) (over C pages) (one pages agrees-b held-ps)
+          (two pages agrees (hold-later form reach stores ps qs change A B (over A pages) (over B pages) apart x held-ps held-qs))
+
       pub both-bad : (answer : Result Unit PageFault)
           → IfErr answer (OfDamage (λ page at. ForEach (attempt b) (attempt c) (λ array. AllHold form reach qs array → ⊥)))
           → IfErr answer (OfDamage (λ page at. ForEach (attempt a) (attempt c) (λ array. AllHold form reach (ps ++ qs) array → ⊥)))
@@ -185,23 +215,15 @@ module _ {Self : Type 0} (attempt : Self → Attempt) (follows : Self → Self �
 
 -- ---- what is noted
 
-pub noted-of : {Self : Type 0} (attempt : Self → Attempt) (follows : Self → Self → Type 0) (asked : Self → Self → (ℕ → Bool) → (ℕ → Bool) → ℕ → Type 0) → PageLaws attempt follows asked → (a c : Self) → follows a c
-    → (form : Place → Array → List ℕ → List (List ℕ) → Type 0) (reach : Place → Array → ℕ → Bool) (places : List Place) (number : ℕ) (ps : List Place) → ps ≡ turned_places number places → (entity : EntityId) (old new : Value)
+pub noted-of : (a c : Attempt) (form : Place → Array → List ℕ → List (List ℕ) → Type 0) (reach : Place → Array → ℕ → Bool) (places : List Place) (number : ℕ) (ps : List Place) → ps ≡ turned_places number places → (entity : EntityId) (old new : Value)
     → (there : Option Attribute) (found : Attribute) → Some found ≡ there → (answer : Result Unit PageFault)
-    → OnOk answer (ForBoth (attempt a) (attempt c) (λ before after. AllHold form reach ps before → Moved form reach ps (λ rows. noted found.kind entity old new rows) (attempt a) (attempt c) before after))
-    → OnOk answer (IfSome there (λ d. same_value old new ≡ false → ForBoth (attempt a) (attempt c) (λ before after. AllHold form reach (turned_places number places) before →
-    IsNoted form reach places number d.kind entity old new (attempt a) (attempt c) before after)))
-noted-of attempt follows asked laws a c ac form reach places number ps same entity old new there found is (Err fault) moved = tt
-noted-of attempt follows asked laws a c ac form reach places number ps same entity old new there found is (Ok u) moved =
-    let A = attempt a in
-    let C = attempt c in
-    subst (λ (o : Option Attribute). IfSome o (λ d. same_value old new ≡ false → ForBoth A C (λ before after. AllHold form reach (turned_places number places) before →
-    IsNoted form reach places number d.kind entity old new A C before after))) is
+    → OnOk answer (ForBoth a c (λ before after. AllHold form reach ps before → Moved form reach ps (λ rows. noted found.kind entity old new rows) a c before after))
+    → OnOk answer (IfSome there (λ d. same_value old new ≡ false → ForBoth a c (λ before after. AllHold form reach (turned_places number places) before →
+    IsNoted form reach places number d.kind entity old new a c before after)))
+noted-of a c form reach places number ps same entity old new there found is (Err fault) moved = tt
+noted-of a c form reach places number ps same entity old new there found is (Ok u) moved =
+    subst (λ (o : Option Attribute). IfSome o (λ d. same_value old new ≡ false → ForBoth a c (λ before after. AllHold form reach (turned_places number places) before →
+    IsNoted form reach places number d.kind entity old new a c before after))) is
     (λ differ pages agrees all.
-    let x = subst (λ (qs : List Place). AllHold form reach qs (over A pages) → Moved form reach qs (λ rows. noted found.kind entity old new rows) A C (over A pages) (over C pages)) same (moved pages agrees) all in
-    record {
-      each = x.each;
-      others = x.others;
-      drawn = drew-blank A C pages (laws.is_sound c) (laws.drawn_unwritten a c ac) agrees;
-      used = x.used;
-    })
+    let x = subst (λ (qs : List Place). AllHold form reach qs (over a pages) → Moved form reach qs (λ rows. noted found.kind entity old new rows) a c (over a pages) (over c pages)) same (moved pages agrees) all in
+    record { each = x.each; others = x.others; drawn = x.drawn; used = x.used })

@@ -17,10 +17,10 @@ use Rattle.st_pages.specs.declared.places.Place.{Place}
 use Rattle.st_pages.specs.Attempt.{Array, Attempt, over}
 use Rattle.st_pages.specs.Reading.{OfDamage}
 use Rattle.st_store.specs.Rows.{with_row}
-use Rattle.st_store.specs.Stores.{ForBoth, OfStore, among, drew_between}
+use Rattle.st_store.specs.Stores.{Changed, ForBoth, OfStore, among, drew_between}
 use Rattle.st_index.specs.Turned.{turned_row, with_value}
 use Rattle.st_index.specs.Noted.{AllHold, Rewritten, reach_any, rows_for}
-use Rattle.st_index.specs.Change.{AreApart, IsChange, Moved}
+use Rattle.st_index.specs.Change.{AreApart, Moved}
 use Rattle.st_index.proofs.Counted.{Drawn, or-cases, not-blank, drew-first, drew-second, drew-either, drew-apart}
 
 -- ---- values that aren't null
@@ -93,18 +93,21 @@ pub record Laws (form : Place → Array → List ℕ → List (List ℕ) → Typ
   pub bear : (p : Place) (a : Array) (pages : List ℕ) (rows : List (List ℕ)) (page : ℕ) → form p a pages rows → IsTrue (among pages page) → (page < 65536) × (store_of (a page) ≡ p.store) × (2 ≤ kind_of (a page)) × (kind_of (a page) ≤ 4)
   pub depends : (p : Place) (a b : Array) (pages : List ℕ) (rows : List (List ℕ)) → form p a pages rows → ((page : ℕ) → IsTrue (among pages page) → b page ≡ a page) → form p b pages rows
 
-module _ (form : Place → Array → List ℕ → List (List ℕ) → Type 0) (reach : Place → Array → ℕ → Bool) where
+-- ---- one store
+
+module _ (form : Place → Array → List ℕ → List (List ℕ) → Type 0) (spot : Place → Array → List ℕ → ℕ → Type 0) (reach : Place → Array → ℕ → Bool) where
   -- the same change of rows, said by an equation
-  pub ok-changed : (place : Place) (a b : Attempt) (answer : Result Unit PageFault) (f g : List (List ℕ) → List (List ℕ)) → ((rows : List (List ℕ)) → f rows ≡ g rows)
-      → OnOk answer (ForBoth a b (λ before after. OfStore form place before (λ had rows. IsChange form reach place a b before after had (f rows))))
-      → OnOk answer (ForBoth a b (λ before after. OfStore form place before (λ had rows. IsChange form reach place a b before after had (g rows))))
-  ok-changed place a b (Ok x) f g e h = λ pages agrees had rows holds. subst (λ (r : List (List ℕ)). IsChange form reach place a b (over a pages) (over b pages) had r) (e rows) (h pages agrees had rows holds)
-  ok-changed place a b (Err fault) f g e h = tt
+  pub ok-changed : (asked : (ℕ → Bool) → (ℕ → Bool) → ℕ → Type 0) (place : Place) (a b : Attempt) (answer : Result Unit PageFault) (f g : List (List ℕ) → List (List ℕ)) → ((rows : List (List ℕ)) → f rows ≡ g rows)
+      → OnOk answer (ForBoth a b (λ before after. OfStore form place before (λ had rows. Changed form spot asked reach place a b before after had (f rows))))
+      → OnOk answer (ForBoth a b (λ before after. OfStore form place before (λ had rows. Changed form spot asked reach place a b before after had (g rows))))
+  ok-changed asked place a b (Ok x) f g e h = λ pages agrees had rows holds. subst (λ (r : List (List ℕ)). Changed form spot asked reach place a b (over a pages) (over b pages) had r) (e rows) (h pages agrees had rows holds)
+  ok-changed asked place a b (Err fault) f g e h = tt
 
   -- two changes of one store
-  pub change-then : (place : Place) (a b c : Attempt) → Drawn a b → Drawn b c → (before mid after : Array) (pages : List ℕ) (rows more : List (List ℕ))
-      → (first : IsChange form reach place a b before mid pages rows) → IsChange form reach place b c mid after first.pages_now more → IsChange form reach place a c before after pages more
-  change-then place a b c ab bc before mid after pages rows more x y = record {
+  pub change-then : (asked-ab asked-bc asked-ac : (ℕ → Bool) → (ℕ → Bool) → ℕ → Type 0) (place : Place) (a b c : Attempt) → Drawn a b → Drawn b c → (before mid after : Array) (pages : List ℕ) (rows more : List (List ℕ))
+      → ((page : ℕ) → IsTrue (drew_between a c page) → before page ≡ blank)
+      → (first : Changed form spot asked-ab reach place a b before mid pages rows) → Changed form spot asked-bc reach place b c mid after first.pages_now more → Changed form spot asked-ac reach place a c before after pages more
+  change-then asked-ab asked-bc asked-ac place a b c ab bc before mid after pages rows more fresh x y = record {
     pages_now = y.pages_now;
     has = y.has;
     taken = λ page t. elim (or-cases (among x.pages_now page) (drew_between b c page) (y.taken page t)) [
@@ -121,16 +124,7 @@ module _ (form : Place → Array → List ℕ → List (List ℕ) → Type 0) (r
         | inr e ↦ y.left page (one-of (among x.pages_now page) (drew_between b c page) e)
       ]
     ];
-    drawn = λ page d. elim (drew-either a b c ab bc page d) [
-      | inl e ↦ x.drawn page e
-      | inr e ↦ elim (x.others page) [
-        | inl o ↦ inr (was page e o)
-        | inr s ↦ elim (y.drawn page e) [
-          | inl n ↦ inl (sym s ∙ n)
-          | inr m ↦ inr (was page e (x.taken page m))
-        ]
-      ]
-    ];
+    drawn = fresh;
     others = λ page. elim (x.others page) [
       | inl o ↦ inl (elim (or-cases (among pages page) (drew_between a b page) o) [
         | inl k ↦ first-of (among pages page) (drew_between a c page) k
@@ -150,13 +144,6 @@ module _ (form : Place → Array → List ℕ → List (List ℕ) → Type 0) (r
     serial = y.serial ∙ x.serial;
   }
     where
-      -- a page that the second change drew, and that was taken before, was one of the store
-      was : (page : ℕ) → IsTrue (drew_between b c page) → IsTrue (among pages page || drew_between a b page) → IsTrue (among pages page)
-      was page e o = elim (or-cases (among pages page) (drew_between a b page) o) [
-        | inl k ↦ k
-        | inr d ↦ absurd (drew-apart a b c ab bc page d e)
-      ]
-
       -- what the first change left, behind the second one
       on : (page : ℕ) → IsTrue (among pages page || drew_between a b page) → IsTrue (among y.pages_now page) ⊎ (after page ≡ blank)
       on page o = elim (x.left page o) [
@@ -167,11 +154,14 @@ module _ (form : Place → Array → List ℕ → List (List ℕ) → Type 0) (r
         ]
       ]
 
+-- ---- several stores
+
+module _ (form : Place → Array → List ℕ → List (List ℕ) → Type 0) (reach : Place → Array → ℕ → Bool) where
   module _ (laws : Laws form reach) where
     -- one store's change as that of a list of one
-    pub moved-one : (place : Place) (change : List (List ℕ) → List (List ℕ)) (a b : Attempt) (before after : Array)
-        → OfStore form place before (λ had rows. IsChange form reach place a b before after had (change rows)) → AllHold form reach (place ∷ []) before → Moved form reach (place ∷ []) change a b before after
-    moved-one place change a b before after each all =
+    pub moved-one : (spot : Place → Array → List ℕ → ℕ → Type 0) (asked : (ℕ → Bool) → (ℕ → Bool) → ℕ → Type 0) (place : Place) (change : List (List ℕ) → List (List ℕ)) (a b : Attempt) (before after : Array)
+        → OfStore form place before (λ had rows. Changed form spot asked reach place a b before after had (change rows)) → AllHold form reach (place ∷ []) before → Moved form reach (place ∷ []) change a b before after
+    moved-one spot asked place change a b before after each all =
         let held = All-head (λ p. (pages : List ℕ) × (rows : List (List ℕ)) × form p before pages rows) place [] all in
         let x = each held.0 held.1 held.2 in
         let was : (page : ℕ) → reach place before page ≡ among held.0 page = λ page. laws.reached place before held.0 held.1 page held.2 in
@@ -192,10 +182,7 @@ module _ (form : Place → Array → List ℕ → List (List ℕ) → Type 0) (r
             ])
             | inr s ↦ inr s
           ];
-          drawn = λ page d. elim (x.drawn page d) [
-            | inl n ↦ inl n
-            | inr k ↦ inr (first-of (reach place before page) false (was page ∙ k))
-          ];
+          drawn = x.drawn;
           used = λ page d. elim (x.left page (one-of (among held.0 page) (drew_between a b page) d)) [
             | inl m ↦ inl (first-of (reach place after page) false (laws.reached place after x.pages_now (change held.1) page x.has ∙ m))
             | inr n ↦ inr n
@@ -227,10 +214,7 @@ module _ (form : Place → Array → List ℕ → List (List ℕ) → Type 0) (r
         elim (x.others page) [
           | inl o ↦ elim (or-cases (reach_any form reach ps before page) (drew_between a b page) o) [
             | inl h ↦ absurd (foreign h)
-            | inr d ↦ elim (x.drawn page d) [
-              | inl n ↦ absurd (not-blank (before page) n bears.2)
-              | inr h ↦ absurd (foreign h)
-            ]
+            | inr d ↦ absurd (not-blank (before page) (x.drawn page d) bears.2)
           ]
           | inr s ↦ s
         ]
@@ -336,7 +320,7 @@ module _ (form : Place → Array → List ℕ → List (List ℕ) → Type 0) (r
             | inr t ↦ inr (t ∙ s)
           ]
         ];
-        drawn = λ page d. inl (fresh page d);
+        drawn = fresh;
         used = λ page d. elim (drew-either a b c ab bc page d) [
           | inl e ↦ elim (x.used page e) [
             | inl h ↦ inl (list_any-append (λ p. reach p after page) ps qs

@@ -8,7 +8,7 @@ use Rattle.st_image.specs.Fields.{blank, kind_of}
 use Rattle.st_pages.specs.Attempt.{Array, Attempt, Agrees, IsSound, over, image_or, how_many, draws, may_put, is_of_store, page_count}
 use Rattle.st_pages.specs.Calls.{HasAsked, IsWithin}
 use Rattle.st_pages.proofs.Carried.{Stays}
-use Rattle.st_store.specs.Stores.{HasPutStores, any_page, changes, drew_between}
+use Rattle.st_store.specs.Stores.{HasPutStores, KeepNumbers, any_page, changes, drew_between}
 use Rattle.st_store.proofs.Ordering.{bytes-same, same-bytes}
 use Rattle.st_index.specs.Noted.{differences}
 
@@ -153,6 +153,16 @@ module _ (a b c : Attempt) (ab : Drawn a b) (bc : Drawn b c) (page : ℕ) where
 
   pub drew-apart : drew_between a b page ≡ true → drew_between b c page ≡ true → ⊥
   drew-apart h k = true≢false (sym (left (b.drawn page) (not (a.drawn page)) h) ∙ not-true (b.drawn page) (right (c.drawn page) (not (b.drawn page)) k))
+
+-- a page that is of a store behind two changes was of it in front of them, or was drawn
+pub numbers-then : (a b c : Attempt) → Drawn a b → Drawn b c → (before mid after : Array) → KeepNumbers a b before mid → KeepNumbers b c mid after → KeepNumbers a c before after
+numbers-then a b c ab bc before mid after first second store page is = elim (second store page is) [
+  | inl was ↦ elim (first store page was) [
+    | inl k ↦ inl k
+    | inr d ↦ inr (drew-first a b c ab bc page d)
+  ]
+  | inr d ↦ inr (drew-second a b c ab bc page d)
+]
 
 -- ---- what may be put
 

@@ -2,11 +2,11 @@
 use Rattle.std.specs.Prelude.{◌≡◌, ℕ, ◌⊎◌, ◌||◌, List, [], ◌∷◌, ◌++◌, Option, Some, None, IsTrue, Bool}
 use Rattle.std.specs.List.{All}
 use Rattle.st_values.specs.declared.value.Kind.{Kind}
-use Rattle.st_image.specs.Fields.{blank, last_serial_of}
+use Rattle.st_image.specs.Fields.{blank}
 use Rattle.st_rows.specs.Rows.{pair_width}
 use Rattle.st_pages.specs.declared.places.Place.{Place}
 use Rattle.st_pages.specs.Attempt.{Array, Attempt}
-use Rattle.st_store.specs.Stores.{IsPlace, among, drew_between}
+use Rattle.st_store.specs.Stores.{IsPlace, drew_between}
 use Rattle.st_index.specs.Noted.{Rewritten, reach_any}
 
 -- a place, if there is one
@@ -29,19 +29,9 @@ abbrev pub AreApart : List Place → List Place → Type 0
 AreApart ps qs = All (λ p. All (λ q. p.store ≡ q.store → ⊥) qs) ps
 
 module _ (form : Place → Array → List ℕ → List (List ℕ) → Type 0) (reach : Place → Array → ℕ → Bool) where
-  -- what calls on one store leave, as a single call does
-  pub record IsChange (place : Place) (a b : Attempt) (before after : Array) (pages : List ℕ) (rows : List (List ℕ)) : Type 0 where
-    pub pages_now : List ℕ
-    pub has : form place after pages_now rows
-    pub taken : (page : ℕ) → IsTrue (among pages_now page) → IsTrue (among pages page || drew_between a b page)
-    pub left : (page : ℕ) → IsTrue (among pages page || drew_between a b page) → IsTrue (among pages_now page) ⊎ (after page ≡ blank)
-    pub drawn : (page : ℕ) → IsTrue (drew_between a b page) → (before page ≡ blank) ⊎ IsTrue (among pages page)
-    pub others : (page : ℕ) → IsTrue (among pages page || drew_between a b page) ⊎ (after page ≡ before page)
-    pub serial : last_serial_of (after place.first) ≡ last_serial_of (before place.first)
-
   -- what calls on stores at places leave, where each one's rows change in the same way
   pub record Moved (places : List Place) (change : List (List ℕ) → List (List ℕ)) (a b : Attempt) (before after : Array) : Type 0 where
     pub each : All (λ place. (pages : List ℕ) (rows : List (List ℕ)) → form place before pages rows → Rewritten form reach place a b before after pages (change rows)) places
     pub others : (page : ℕ) → IsTrue (reach_any form reach places before page || drew_between a b page) ⊎ (after page ≡ before page)
-    pub drawn : (page : ℕ) → IsTrue (drew_between a b page) → (before page ≡ blank) ⊎ IsTrue (reach_any form reach places before page)
+    pub drawn : (page : ℕ) → IsTrue (drew_between a b page) → before page ≡ blank
     pub used : (page : ℕ) → IsTrue (drew_between a b page) → IsTrue (reach_any form reach places after page) ⊎ (after page ≡ blank)

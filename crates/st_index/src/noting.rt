@@ -8,10 +8,10 @@ ghost use Rattle.st_catalog.specs.Stores.{AreOf};
 ghost use Rattle.st_pages.specs.Calls.{HandsOn, no_page};
 ghost use Rattle.st_pages.specs.Attempt.{may_put};
 ghost use Rattle.st_pages.specs.Reading.{ForEach, OfDamage};
-ghost use Rattle.st_store.specs.Stores.{IsPlace, OfStore, ForBoth, HasPutStores, any_page, drew_between};
+ghost use Rattle.st_store.specs.Stores.{IsPlace, OfStore, ForBoth, Changed, HasPutStores, KeepNumbers, any_page, drew_between};
 ghost use Rattle.st_store.specs.Rows.{with_row, without_row};
 ghost use Rattle.st_index.specs.Turned.{IsOrNull, turned_row, noted, with_value, without_value, turned_places};
-ghost use Rattle.st_index.specs.Change.{IsTurned, IsChange, Moved, AreApart, one_place, two_places};
+ghost use Rattle.st_index.specs.Change.{IsTurned, Moved, AreApart, one_place, two_places};
 ghost use Rattle.st_index.specs.Noted.{IsNoted, AllHold, reach_any, rows_for, differences};
 ghost use Rattle.st_values.specs.Order.{same_value};
 
@@ -43,8 +43,9 @@ fn forget_row<S: Store, P: Pages>(
     ensures asked { ForEach (P.attempt pages.old) (P.attempt pages.new) (λ array. P.asked pages.old pages.new (S.reach (S.location store.now) array) (S.reach (S.location store.now) array) 0) }
     ensures kinds { HasPutStores (P.attempt pages.old) → P.asked pages.old pages.new any_page (may_put (P.attempt pages.new)) 0 }
     ensures few { ForBoth (P.attempt pages.old) (P.attempt pages.new) (λ before after. differences before after ≤ 34) }
+    ensures numbers { ForBoth (P.attempt pages.old) (P.attempt pages.new) (λ before after. OfStore S.holds (S.location store.now) before (λ _ _. KeepNumbers (P.attempt pages.old) (P.attempt pages.new) before after)) }
     ensures changed { OnOk result (ForBoth (P.attempt pages.old) (P.attempt pages.new) (λ before after. OfStore S.holds (S.location store.now) before (λ had rows.
-        IsChange S.holds S.reach (S.location store.now) (P.attempt pages.old) (P.attempt pages.new) before after had (without_row (pair_width kind) (turned_row kind value.now entity) rows)))) }
+        Changed S.holds S.spot (P.asked pages.old pages.new) S.reach (S.location store.now) (P.attempt pages.old) (P.attempt pages.new) before after had (without_row (pair_width kind) (turned_row kind value.now entity) rows)))) }
     ensures bad { IfErr result (OfDamage (λ page at. ForEach (P.attempt pages.old) (P.attempt pages.new) (λ array. S.bad (S.location store.now) array page at))) }
 {
     let mut bytes = [0; MOST_BYTES];
@@ -73,8 +74,9 @@ fn forget<S: Store, P: Pages>(
     ensures asked { ForEach (P.attempt pages.old) (P.attempt pages.new) (λ array. P.asked pages.old pages.new (S.reach (S.location store.now) array) (S.reach (S.location store.now) array) 0) }
     ensures kinds { HasPutStores (P.attempt pages.old) → P.asked pages.old pages.new any_page (may_put (P.attempt pages.new)) 0 }
     ensures few { ForBoth (P.attempt pages.old) (P.attempt pages.new) (λ before after. differences before after ≤ 34 * rows_for value.now) }
+    ensures numbers { ForBoth (P.attempt pages.old) (P.attempt pages.new) (λ before after. OfStore S.holds (S.location store.now) before (λ _ _. KeepNumbers (P.attempt pages.old) (P.attempt pages.new) before after)) }
     ensures changed { OnOk result (ForBoth (P.attempt pages.old) (P.attempt pages.new) (λ before after. OfStore S.holds (S.location store.now) before (λ had rows.
-        IsChange S.holds S.reach (S.location store.now) (P.attempt pages.old) (P.attempt pages.new) before after had (without_value kind entity value.now rows)))) }
+        Changed S.holds S.spot (P.asked pages.old pages.new) S.reach (S.location store.now) (P.attempt pages.old) (P.attempt pages.new) before after had (without_value kind entity value.now rows)))) }
     ensures bad { IfErr result (OfDamage (λ page at. ForEach (P.attempt pages.old) (P.attempt pages.new) (λ array. S.bad (S.location store.now) array page at))) }
 {
     match value {
@@ -101,8 +103,9 @@ fn keep_row<S: Store, P: Pages>(
         (λ page. S.reach (S.location store.now) array page || drew_between (P.attempt pages.old) (P.attempt pages.new) page) 17) }
     ensures kinds { HasPutStores (P.attempt pages.old) → P.asked pages.old pages.new any_page (may_put (P.attempt pages.new)) 17 }
     ensures few { ForBoth (P.attempt pages.old) (P.attempt pages.new) (λ before after. differences before after ≤ 34) }
+    ensures numbers { ForBoth (P.attempt pages.old) (P.attempt pages.new) (λ before after. OfStore S.holds (S.location store.now) before (λ _ _. KeepNumbers (P.attempt pages.old) (P.attempt pages.new) before after)) }
     ensures changed { OnOk result (ForBoth (P.attempt pages.old) (P.attempt pages.new) (λ before after. OfStore S.holds (S.location store.now) before (λ had rows.
-        IsChange S.holds S.reach (S.location store.now) (P.attempt pages.old) (P.attempt pages.new) before after had (with_row (pair_width kind) (turned_row kind value.now entity) rows)))) }
+        Changed S.holds S.spot (P.asked pages.old pages.new) S.reach (S.location store.now) (P.attempt pages.old) (P.attempt pages.new) before after had (with_row (pair_width kind) (turned_row kind value.now entity) rows)))) }
     ensures bad { IfErr result (OfDamage (λ page at. ForEach (P.attempt pages.old) (P.attempt pages.new) (λ array. S.bad (S.location store.now) array page at))) }
 {
     let mut bytes = [0; MOST_BYTES];
@@ -132,8 +135,9 @@ fn keep<S: Store, P: Pages>(
         (λ page. S.reach (S.location store.now) array page || drew_between (P.attempt pages.old) (P.attempt pages.new) page) (17 * rows_for value.now)) }
     ensures kinds { HasPutStores (P.attempt pages.old) → P.asked pages.old pages.new any_page (may_put (P.attempt pages.new)) (17 * rows_for value.now) }
     ensures few { ForBoth (P.attempt pages.old) (P.attempt pages.new) (λ before after. differences before after ≤ 34 * rows_for value.now) }
+    ensures numbers { ForBoth (P.attempt pages.old) (P.attempt pages.new) (λ before after. OfStore S.holds (S.location store.now) before (λ _ _. KeepNumbers (P.attempt pages.old) (P.attempt pages.new) before after)) }
     ensures changed { OnOk result (ForBoth (P.attempt pages.old) (P.attempt pages.new) (λ before after. OfStore S.holds (S.location store.now) before (λ had rows.
-        IsChange S.holds S.reach (S.location store.now) (P.attempt pages.old) (P.attempt pages.new) before after had (with_value kind entity value.now rows)))) }
+        Changed S.holds S.spot (P.asked pages.old pages.new) S.reach (S.location store.now) (P.attempt pages.old) (P.attempt pages.new) before after had (with_value kind entity value.now rows)))) }
     ensures bad { IfErr result (OfDamage (λ page at. ForEach (P.attempt pages.old) (P.attempt pages.new) (λ array. S.bad (S.location store.now) array page at))) }
 {
     match value {
@@ -162,8 +166,9 @@ fn note_in<S: Store, P: Pages>(
         (λ page. S.reach place array page || drew_between (P.attempt pages.old) (P.attempt pages.new) page) (17 * rows_for new.now))) }
     ensures kinds { HasPutStores (P.attempt pages.old) → P.asked pages.old pages.new any_page (may_put (P.attempt pages.new)) (17 * rows_for new.now) }
     ensures few { ForBoth (P.attempt pages.old) (P.attempt pages.new) (λ before after. differences before after ≤ 34 * (rows_for old.now + rows_for new.now)) }
+    ensures numbers { ForBoth (P.attempt pages.old) (P.attempt pages.new) (λ before after. OfStore S.holds place before (λ _ _. KeepNumbers (P.attempt pages.old) (P.attempt pages.new) before after)) }
     ensures changed { OnOk result (ForBoth (P.attempt pages.old) (P.attempt pages.new) (λ before after. OfStore S.holds place before (λ had rows.
-        IsChange S.holds S.reach place (P.attempt pages.old) (P.attempt pages.new) before after had (noted kind entity old.now new.now rows)))) }
+        Changed S.holds S.spot (P.asked pages.old pages.new) S.reach place (P.attempt pages.old) (P.attempt pages.new) before after had (noted kind entity old.now new.now rows)))) }
     ensures bad { IfErr result (OfDamage (λ page at. ForEach (P.attempt pages.old) (P.attempt pages.new) (λ array. OfStore S.holds place array (λ _ _. ⊥)))) }
 {
     let store = S::at(place);
@@ -195,6 +200,7 @@ fn note_at<S: Store, P: Pages>(
         (17 * length (one_place place) * rows_for new.now)) }
     ensures kinds { HasPutStores (P.attempt pages.old) → P.asked pages.old pages.new any_page (may_put (P.attempt pages.new)) (17 * length (one_place place) * rows_for new.now) }
     ensures few { ForBoth (P.attempt pages.old) (P.attempt pages.new) (λ before after. differences before after ≤ 34 * length (one_place place) * (rows_for old.now + rows_for new.now)) }
+    ensures numbers { ForBoth (P.attempt pages.old) (P.attempt pages.new) (λ before after. AllHold S.holds S.reach (one_place place) before → KeepNumbers (P.attempt pages.old) (P.attempt pages.new) before after) }
     ensures moved { OnOk result (ForBoth (P.attempt pages.old) (P.attempt pages.new) (λ before after. AllHold S.holds S.reach (one_place place) before →
         Moved S.holds S.reach (one_place place) (noted kind entity old.now new.now) (P.attempt pages.old) (P.attempt pages.new) before after)) }
     ensures bad { IfErr result (OfDamage (λ page at. ForEach (P.attempt pages.old) (P.attempt pages.new) (λ array. AllHold S.holds S.reach (one_place place) array → ⊥))) }
@@ -230,6 +236,7 @@ fn note_both<S: Store, P: Pages>(
         (17 * length (two_places index inverse) * rows_for new.now)) }
     ensures kinds { HasPutStores (P.attempt pages.old) → P.asked pages.old pages.new any_page (may_put (P.attempt pages.new)) (17 * length (two_places index inverse) * rows_for new.now) }
     ensures few { ForBoth (P.attempt pages.old) (P.attempt pages.new) (λ before after. differences before after ≤ 34 * length (two_places index inverse) * (rows_for old.now + rows_for new.now)) }
+    ensures numbers { ForBoth (P.attempt pages.old) (P.attempt pages.new) (λ before after. AllHold S.holds S.reach (two_places index inverse) before → KeepNumbers (P.attempt pages.old) (P.attempt pages.new) before after) }
     ensures moved { OnOk result (ForBoth (P.attempt pages.old) (P.attempt pages.new) (λ before after. AllHold S.holds S.reach (two_places index inverse) before →
         Moved S.holds S.reach (two_places index inverse) (noted kind entity old.now new.now) (P.attempt pages.old) (P.attempt pages.new) before after)) }
     ensures bad { IfErr result (OfDamage (λ page at. ForEach (P.attempt pages.old) (P.attempt pages.new) (λ array. AllHold S.holds S.reach (two_places index inverse) array → ⊥))) }
@@ -267,6 +274,7 @@ pub fn note<S: Store, P: Pages>(
         (17 * length (turned_places attribute places.now) * rows_for new.now)) }
     ensures kinds { HasPutStores (P.attempt pages.old) → P.asked pages.old pages.new any_page (may_put (P.attempt pages.new)) (17 * length (turned_places attribute places.now) * rows_for new.now) }
     ensures few { ForBoth (P.attempt pages.old) (P.attempt pages.new) (λ before after. differences before after ≤ 34 * length (turned_places attribute places.now) * (rows_for old.now + rows_for new.now)) }
+    ensures numbers { ForBoth (P.attempt pages.old) (P.attempt pages.new) (λ before after. AllHold S.holds S.reach (turned_places attribute places.now) before → KeepNumbers (P.attempt pages.old) (P.attempt pages.new) before after) }
     ensures same { same_value old.now new.now ≡ true → P.asked pages.old pages.new no_page no_page 0 }
     ensures noted { OnOk result (IfSome (numbered schema.now attribute) (λ a. same_value old.now new.now ≡ false → ForBoth (P.attempt pages.old) (P.attempt pages.new) (λ before after.
         AllHold S.holds S.reach (turned_places attribute places.now) before →

@@ -6,7 +6,7 @@ ghost use Rattle.st_pages.specs.declared.places.Place.{Place};
 ghost use Rattle.st_state.specs.State.{Pair};
 ghost use Rattle.st_lattice.specs.Outline.{attribute as numbered};
 ghost use Rattle.st_catalog.specs.Stores.{AreOf};
-ghost use Rattle.st_pages.specs.Calls.{Met, HandsOn, no_page};
+ghost use Rattle.st_pages.specs.Calls.{Met, HandsOn, is_of_looking, no_page};
 ghost use Rattle.st_pages.specs.Reading.{ForEach, OfDamage};
 ghost use Rattle.st_keys.specs.Keys.{Fits, IsEntity};
 ghost use Rattle.st_rows.specs.Rows.{pair_width as row_width};
@@ -82,6 +82,7 @@ fn seek_value<S: Store, P: Pages>(
     ensures follows { P.follows pages.old pages.new }
     ensures written { (P.attempt pages.new).written ≡ (P.attempt pages.old).written }
     ensures met { HandsOn (P.met pages.old) (P.met pages.new) result }
+    ensures looks { IfErr result (λ fault. IsTrue (is_of_looking fault)) }
     ensures asked { ForEach (P.attempt pages.old) (P.attempt pages.new) (λ array. P.asked pages.old pages.new (S.reach (S.location store.now) array) no_page 0) }
     ensures fits { IfOk result (λ cursor. CursorFits (S.location store.now) cursor) }
     ensures sits { IfOk result (λ cursor. ForEach (P.attempt pages.old) (P.attempt pages.new) (λ array. S.sits (S.location store.now) array cursor)) }
@@ -117,6 +118,7 @@ fn entity_with(
     requires passed { (index : ℕ) × (cursor.now.index ≡ suc index) × (index * row_width attribute.now.kind + row_width attribute.now.kind ≤ 4080) }
     ensures pair { IfOk result (λ next. IsPairOf attribute.now.kind value.now row.now next) }
     ensures met { (old new : Met) → HandsOn old new result }
+    ensures looks { IfErr result (λ fault. IsTrue (is_of_looking fault)) }
     ensures bad { IfErr result (OfDamage (λ page at. (page ≡ cursor.now.number) × IsBadBehind schema.now attribute.now cursor.now row.now at)) }
 {
     laws_of_rows();
@@ -151,6 +153,7 @@ fn next_with<S: Store, P: Pages>(
     ensures follows { P.follows pages.old pages.new }
     ensures written { (P.attempt pages.new).written ≡ (P.attempt pages.old).written }
     ensures met { HandsOn (P.met pages.old) (P.met pages.new) result }
+    ensures looks { IfErr result (λ fault. IsTrue (is_of_looking fault)) }
     ensures asked { ForEach (P.attempt pages.old) (P.attempt pages.new) (λ array. S.sits (S.location store.now) array cursor.old →
         P.asked pages.old pages.new (S.reach (S.location store.now) array) no_page 0) }
     ensures fits { CursorFits (S.location store.now) cursor.new }
@@ -186,6 +189,7 @@ fn gather<S: Store, P: Pages>(
     ensures follows { P.follows pages.old pages.new }
     ensures written { (P.attempt pages.new).written ≡ (P.attempt pages.old).written }
     ensures met { HandsOn (P.met pages.old) (P.met pages.new) result }
+    ensures looks { IfErr result (λ fault. IsTrue (is_of_looking fault)) }
     ensures asked { ForEach (P.attempt pages.old) (P.attempt pages.new) (λ array. S.sits (S.location store.now) array cursor →
         P.asked pages.old pages.new (S.reach (S.location store.now) array) no_page 0) }
     ensures found { IfOk result (λ entities. ForEach (P.attempt pages.old) (P.attempt pages.new) (λ array. (rest : List (List ℕ)) → S.ahead (S.location store.now) array cursor rest →
@@ -221,6 +225,7 @@ fn look<S: Store, P: Pages>(
     ensures follows { P.follows pages.old pages.new }
     ensures written { (P.attempt pages.new).written ≡ (P.attempt pages.old).written }
     ensures met { HandsOn (P.met pages.old) (P.met pages.new) result }
+    ensures looks { IfErr result (λ fault. IsTrue (is_of_looking fault)) }
     ensures asked { ForEach (P.attempt pages.old) (P.attempt pages.new) (λ array. P.asked pages.old pages.new (S.reach place array) no_page 0) }
     ensures found { IfOk result (λ entities. ForEach (P.attempt pages.old) (P.attempt pages.new) (λ array. OfStore S.holds place array (λ _ rows.
         (pairs : List Pair) → AreOfPairs attribute.now.kind rows pairs → entities ≡ entities_with value.now pairs))) }
@@ -254,6 +259,7 @@ pub fn lookup<S: Store, P: Pages>(
     ensures follows { P.follows pages.old pages.new }
     ensures written { (P.attempt pages.new).written ≡ (P.attempt pages.old).written }
     ensures met { HandsOn (P.met pages.old) (P.met pages.new) result }
+    ensures looks { IfErr result (λ fault. IsTrue (is_of_looking fault)) }
     ensures asked { ForEach (P.attempt pages.old) (P.attempt pages.new) (λ array.
         MatchOption (found_place attribute places.now) (P.asked pages.old pages.new no_page no_page 0) (λ place. P.asked pages.old pages.new (S.reach place array) no_page 0)) }
     ensures found { IfOk result (λ entities. ForEach (P.attempt pages.old) (P.attempt pages.new) (λ array.

@@ -1,14 +1,15 @@
 -- What holds of each array that agrees, from one call to the next.
-use Rattle.std.proofs.Common.{◌≡◌, ℕ, ◌<◌, ◌≤◌, ◌==◌, Bool, List, Option, Some, None, IfSome, IsTrue, refl, sym, ap, ◌∙◌, subst, inl, inr, arith}
+use Rattle.std.proofs.Common.{◌≡◌, ℕ, ◌<◌, ◌≤◌, ◌==◌, Bool, List, Option, Some, None, Result, Ok, Err, IfSome, IfErr, IsTrue, refl, sym, ap, ◌∙◌, subst, inl, inr, arith}
 use Rattle.std.proofs.lemmas.Bool.Decides.{nat_tests}
 use Rattle.st_edge.specs.Faults.{Rose}
 use Rattle.st_page.specs.declared.fault.PageFault.{PageFault}
+use Rattle.st_page.specs.declared.fault.PageFault.TheVariants.{BadPage, Conflict, Full, TooManyPages, DiskFault, Closed, Memory}
 use Rattle.st_image.specs.declared.wanted.Wanted.{Wanted}
 use Rattle.st_image.specs.declared.wanted.Wanted.TheVariants.{Free, Schema, Roots, Chain, Leaf, Node}
 use Rattle.st_image.specs.Fields.{blank, next_of}
 use Rattle.st_image.specs.Grammar.{IsPage}
 use Rattle.st_pages.specs.Attempt.{Array, Attempt, over, image_or}
-use Rattle.st_pages.specs.Calls.{Met, IsWithin, only}
+use Rattle.st_pages.specs.Calls.{Met, Counts, IsGetCause, IsWithin, is_of_looking, only}
 use Rattle.st_pages.specs.Reading.{ForEach}
 
 -- ---- what holds of each array
@@ -33,6 +34,17 @@ under old mid new Holds e each pages agrees = subst Holds (over-same old mid pag
 pub handed : (old mid new : Met) (told : Option PageFault) → old.count ≤ mid.count → IfSome told (λ f. (new.last ≡ Some f) × Rose mid.count new.count) → IfSome told (λ f. (new.last ≡ Some f) × Rose old.count new.count)
 handed old mid new None below on = tt
 handed old mid new (Some f) below on = (on.0, λ h. let up = on.1 h in omega (arith, up, below))
+
+-- a page that isn't got is a fault of looking
+pub looked : (r : Result Unit PageFault) (page : ℕ) (old new : Counts) (closed : Type 0) → IfErr r (IsGetCause page old new closed) → IfErr r (λ fault. IsTrue (is_of_looking fault))
+looked (Ok x) page old new closed cause = tt
+looked (Err (BadPage q at)) page old new closed cause = refl
+looked (Err (Conflict q holder)) page old new closed cause = refl
+looked (Err (Full in_use)) page old new closed cause = absurd cause
+looked (Err (TooManyPages count)) page old new closed cause = absurd cause
+looked (Err DiskFault) page old new closed cause = refl
+looked (Err Closed) page old new closed cause = refl
+looked (Err Memory) page old new closed cause = refl
 
 -- ---- pages
 

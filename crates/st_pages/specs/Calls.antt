@@ -1,5 +1,5 @@
 -- What the calls of pages answer, and why.
-use Rattle.std.specs.Prelude.{◌≡◌, ℕ, suc, ◌+◌, ◌-◌, ◌^◌, ◌<◌, ◌≤◌, ◌⊎◌, ◌==◌, ◌||◌, Bool, false, if◌then◌else◌, List, Option, Some, None, Result, Ok, Err, IsSome, IsTrue, IfSome, ⊤}
+use Rattle.std.specs.Prelude.{◌≡◌, ℕ, suc, ◌+◌, ◌-◌, ◌^◌, ◌<◌, ◌≤◌, ◌⊎◌, ◌==◌, ◌||◌, Bool, true, false, if◌then◌else◌, List, Option, Some, None, Result, Ok, Err, IsSome, IsTrue, IfSome, ⊤}
 use Rattle.st_edge.specs.Faults.{Rose}
 use Rattle.st_page.specs.declared.fault.PageFault.{PageFault}
 use Rattle.st_page.specs.declared.fault.PageFault.TheVariants.{BadPage, Conflict, Full, TooManyPages, DiskFault, Closed, Memory}
@@ -57,6 +57,12 @@ IsGetCause page old new closed _ = ⊥
 abbrev pub IsPutCause : ℕ → List ℕ → Attempt → Counts → Counts → Type 0 → PageFault → Type 0
 IsPutCause page image a old new closed (TooManyPages count) = (count ≡ 4001) × (changed (wrote page image a) ≡ 4001)
 IsPutCause page image a old new closed fault = IsGetCause page old new closed fault
+
+-- a fault that calls meet which put and draw nothing: neither too many pages nor none that is free
+abbrev pub is_of_looking : PageFault → Bool
+is_of_looking (Full in_use) = false
+is_of_looking (TooManyPages count) = false
+is_of_looking _ = true
 
 -- how many pages were in use when the attempt began, and how many are left to be drawn, where these are told
 pub record Room : Type 0 where

@@ -1,8 +1,8 @@
-ghost use Rattle.std.specs.Prelude.{◌≡◌, ◌<◌, ℕ, IsSome, OnOk, IfErr};
+ghost use Rattle.std.specs.Prelude.{◌≡◌, ◌<◌, ℕ, IsSome, IsTrue, OnOk, IfErr};
 ghost use Rattle.st_image.specs.Grammar.{IsPage, IsFair};
 ghost use Rattle.st_image.specs.Prefixes.{IsFirstWrong};
 ghost use Rattle.st_page.specs.declared.fault.PageFault.TheVariants.{BadPage};
-ghost use Rattle.st_pages.specs.Calls.{HandsOn, no_page, only};
+ghost use Rattle.st_pages.specs.Calls.{HandsOn, is_of_looking, no_page, only};
 ghost use Rattle.st_pages.specs.Reading.{ForEach, OfDamage};
 
 use crate::laws::laws_of_attempts;
@@ -25,6 +25,7 @@ pub fn get_image<P: Pages>(
     ensures follows { P.follows pages.old pages.new }
     ensures written { (P.attempt pages.new).written ≡ (P.attempt pages.old).written }
     ensures met { HandsOn (P.met pages.old) (P.met pages.new) result }
+    ensures looks { IfErr result (λ fault. IsTrue (is_of_looking fault)) }
     ensures asked { P.asked pages.old pages.new (only page) no_page 0 }
     ensures image { OnOk result (ForEach (P.attempt pages.old) (P.attempt pages.new) (λ array. array page ≡ frame.new)) }
     ensures seen { OnOk result (IsSome ((P.attempt pages.new).seen page)) }
@@ -38,6 +39,7 @@ pub fn get_image<P: Pages>(
 fn checked(page: u32, frame: &Page, wanted: Wanted) -> Result<(), PageFault>
     requires { IsFair wanted }
     ensures ok { OnOk result (IsPage wanted frame.now) }
+    ensures looks { IfErr result (λ fault. IsTrue (is_of_looking fault)) }
     ensures bad { IfErr result (λ fault. (place : ℕ) × (fault ≡ BadPage page place) × IsFirstWrong (IsPage wanted) frame.now place) }
 {
     match check_page(frame, wanted) {
@@ -62,6 +64,7 @@ pub fn get_wanted<P: Pages>(
     ensures follows { P.follows pages.old pages.new }
     ensures written { (P.attempt pages.new).written ≡ (P.attempt pages.old).written }
     ensures met { HandsOn (P.met pages.old) (P.met pages.new) result }
+    ensures looks { IfErr result (λ fault. IsTrue (is_of_looking fault)) }
     ensures asked { P.asked pages.old pages.new (only page) no_page 0 }
     ensures image { OnOk result (ForEach (P.attempt pages.old) (P.attempt pages.new) (λ array. array page ≡ frame.new)) }
     ensures seen { OnOk result (IsSome ((P.attempt pages.new).seen page)) }

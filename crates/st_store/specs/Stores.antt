@@ -1,17 +1,13 @@
 -- What it is to be a store, whatever its form.
-use Rattle.std.specs.Prelude.{◌≡◌, ℕ, suc, slice_get, ◌<◌, ◌⊎◌, ◌==◌, ◌||◌, ◌&&◌, not, Bool, true, false, List, [], ◌∷◌, Some, None, IsSome, IsTrue, is_some}
+use Rattle.std.specs.Prelude.{◌≡◌, ℕ, suc, slice_get, nat_le, ◌<◌, ◌⊎◌, ◌==◌, ◌||◌, ◌&&◌, not, Bool, true, false, List, [], ◌∷◌, Some, None, IsSome, IsTrue, is_some}
 use Rattle.std.specs.List.{list_any}
 use Rattle.std.specs.Str.{bytes_eq}
-use Rattle.st_image.specs.Fields.{blank, last_serial_of, rows_of}
+use Rattle.st_image.specs.Fields.{blank, kind_of, store_of, last_serial_of, rows_of}
 use Rattle.st_image.specs.Grammar.{AreFair, IsRowPage}
 use Rattle.st_pages.specs.declared.places.Place.{Place}
 use Rattle.st_pages.specs.Attempt.{Array, Attempt, Agrees, over, how_many, may_put, page_count}
 use Rattle.st_store.specs.declared.cursor.Cursor.{Cursor}
 use Rattle.st_store.specs.Rows.{with_row, without_row, row_with}
-
--- A form of store: which pages, in an array, a store at a place consists of, and which rows it has.
-abbrev pub Form : Type 1
-Form = Place → Array → List ℕ → List (List ℕ) → Type 0
 
 -- a store may stand at a place: its first page is one, and its key and its width are fair
 pub record IsPlace (place : Place) : Type 0 where
@@ -45,6 +41,18 @@ ForBoth old new Holds = (pages : Array) → Agrees new pages → Holds (over old
 -- of how many pages the bytes differ, one page counted in any case
 abbrev pub changes : ℕ → Array → Array → ℕ
 changes first before after = how_many (λ page. (page == first) || not (bytes_eq (before page) (after page))) page_count
+
+-- whether a page is one of a store, by its number and its kind
+abbrev pub is_page_of : ℕ → List ℕ → Bool
+is_page_of store page = (store_of page == store) && (nat_le 2 (kind_of page) && nat_le (kind_of page) 4)
+
+-- a page that is one of a store behind calls was one of it in front of them, or was drawn
+abbrev pub KeepNumbers : Attempt → Attempt → Array → Array → Type 0
+KeepNumbers a b before after = (store page : ℕ) → IsTrue (is_page_of store (after page)) → IsTrue (is_page_of store (before page)) ⊎ IsTrue (drew_between a b page)
+
+-- an array is as another one
+abbrev pub IsSame : Array → Array → Type 0
+IsSame before after = (page : ℕ) → after page ≡ before page
 
 -- the row with a key was found, or there is none
 abbrev pub Found : ℕ → List ℕ → List (List ℕ) → Bool → List ℕ → Type 0

@@ -1,12 +1,14 @@
-ghost use Rattle.std.specs.Prelude.{◌≡◌, ◌<◌, ◌≤◌, ◌^◌, ◌==◌, ◌||◌, ℕ, Bool, List, length, slice_get, Some, IsSome, IsTrue, OnOk, OnErr, IfOk, IfErr, if◌then◌else◌};
+ghost use Rattle.std.specs.Prelude.{◌≡◌, ◌<◌, ◌≤◌, ◌^◌, ◌==◌, ◌||◌, not, ℕ, Bool, List, length, slice_get, is_some, Some, None, IsSome, IsTrue, OnOk, OnErr, IfOk, IfErr, if◌then◌else◌};
+ghost use Rattle.st_values.specs.Arranged.{each_pair};
 ghost use Rattle.st_image.specs.Fields.{kind_of, store_of, rows_of, with_last_serial};
+ghost use Rattle.st_image.specs.Grammar.{IsRowPage};
 ghost use Rattle.st_pages.specs.declared.places.Place.{Place};
 ghost use Rattle.st_pages.specs.Attempt.{Array, may_put};
-ghost use Rattle.st_pages.specs.Calls.{HandsOn, no_page};
+ghost use Rattle.st_pages.specs.Calls.{HandsOn, is_of_looking, no_page};
 ghost use Rattle.st_pages.specs.Reading.{ForEach, OfDamage};
 ghost use Rattle.st_store.specs.declared.cursor.Cursor.{Cursor};
-ghost use Rattle.st_store.specs.Rows.{AreOrdered, rows_from};
-ghost use Rattle.st_store.specs.Stores.{IsPlace, OfStore, ForBoth, Found, Inserted, Removed, HasPutStores, Fits, HasPassed, Advanced, among, any_page, changes, drew_between};
+ghost use Rattle.st_store.specs.Rows.{AreOrdered, row_with, rows_from};
+ghost use Rattle.st_store.specs.Stores.{IsPlace, OfStore, ForBoth, Found, Inserted, Removed, KeepNumbers, IsSame, HasPutStores, Fits, HasPassed, Advanced, among, any_page, changes, drew_between};
 
 use crate::cursor::Cursor;
 use st_page::PageFault;
@@ -64,6 +66,7 @@ pub trait Store: Drop {
         ensures follows { P.follows pages.old pages.new }
         ensures written { (P.attempt pages.new).written ≡ (P.attempt pages.old).written }
         ensures met { HandsOn (P.met pages.old) (P.met pages.new) result }
+        ensures looks { IfErr result (λ fault. IsTrue (is_of_looking fault)) }
         ensures asked { ForEach (P.attempt pages.old) (P.attempt pages.new) (λ array. P.asked pages.old pages.new (reach (Self.location self.now) array) no_page 0) }
         ensures found { IfOk result (λ found. ForEach (P.attempt pages.old) (P.attempt pages.new) (λ array.
             OfStore holds (Self.location self.now) array (λ _ rows. Found (Self.location self.now).key key.now rows found row.new))) }
@@ -80,6 +83,10 @@ pub trait Store: Drop {
             (λ page. reach (Self.location self.now) array page || drew_between (P.attempt pages.old) (P.attempt pages.new) page) 17) }
         ensures kinds { HasPutStores (P.attempt pages.old) → P.asked pages.old pages.new any_page (may_put (P.attempt pages.new)) 17 }
         ensures few { ForBoth (P.attempt pages.old) (P.attempt pages.new) (λ before after. changes (Self.location self.now).first before after ≤ 34) }
+        ensures numbers { ForBoth (P.attempt pages.old) (P.attempt pages.new) (λ before after. OfStore holds (Self.location self.now) before (λ _ _. KeepNumbers (P.attempt pages.old) (P.attempt pages.new) before after)) }
+        ensures there { ForEach (P.attempt pages.old) (P.attempt pages.new) (λ array. OfStore holds (Self.location self.now) array (λ _ rows. IsTrue (is_some (row_with (Self.location self.now).key row.now rows)) →
+            P.asked pages.old pages.new (reach (Self.location self.now) array) (reach (Self.location self.now) array) 0)) }
+        ensures same { ForBoth (P.attempt pages.old) (P.attempt pages.new) (λ before after. OfStore holds (Self.location self.now) before (λ _ rows. row_with (Self.location self.now).key row.now rows ≡ Some row.now → IsSame before after)) }
         ensures inserted { IfOk result (λ was. ForBoth (P.attempt pages.old) (P.attempt pages.new) (λ before after.
             OfStore holds (Self.location self.now) before (λ reached rows.
             Inserted holds spot (P.asked pages.old pages.new) reach (Self.location self.now) (P.attempt pages.old) (P.attempt pages.new) before after reached row.now rows was))) }
@@ -94,6 +101,8 @@ pub trait Store: Drop {
         ensures asked { ForEach (P.attempt pages.old) (P.attempt pages.new) (λ array. P.asked pages.old pages.new (reach (Self.location self.now) array) (reach (Self.location self.now) array) 0) }
         ensures kinds { HasPutStores (P.attempt pages.old) → P.asked pages.old pages.new any_page (may_put (P.attempt pages.new)) 0 }
         ensures few { ForBoth (P.attempt pages.old) (P.attempt pages.new) (λ before after. changes (Self.location self.now).first before after ≤ 34) }
+        ensures numbers { ForBoth (P.attempt pages.old) (P.attempt pages.new) (λ before after. OfStore holds (Self.location self.now) before (λ _ _. KeepNumbers (P.attempt pages.old) (P.attempt pages.new) before after)) }
+        ensures same { ForBoth (P.attempt pages.old) (P.attempt pages.new) (λ before after. OfStore holds (Self.location self.now) before (λ _ rows. row_with (Self.location self.now).key key.now rows ≡ None → IsSame before after)) }
         ensures removed { IfOk result (λ was. ForBoth (P.attempt pages.old) (P.attempt pages.new) (λ before after.
             OfStore holds (Self.location self.now) before (λ reached rows.
             Removed holds spot (P.asked pages.old pages.new) reach (Self.location self.now) (P.attempt pages.old) (P.attempt pages.new) before after reached key.now rows was))) }
@@ -105,6 +114,7 @@ pub trait Store: Drop {
         ensures follows { P.follows pages.old pages.new }
         ensures written { (P.attempt pages.new).written ≡ (P.attempt pages.old).written }
         ensures met { HandsOn (P.met pages.old) (P.met pages.new) result }
+        ensures looks { IfErr result (λ fault. IsTrue (is_of_looking fault)) }
         ensures asked { ForEach (P.attempt pages.old) (P.attempt pages.new) (λ array. P.asked pages.old pages.new (reach (Self.location self.now) array) no_page 0) }
         ensures fits { IfOk result (λ cursor. Fits (Self.location self.now) cursor) }
         ensures sits { IfOk result (λ cursor. ForEach (P.attempt pages.old) (P.attempt pages.new) (λ array. sits (Self.location self.now) array cursor)) }
@@ -125,6 +135,7 @@ pub trait Store: Drop {
         ensures follows { P.follows pages.old pages.new }
         ensures written { (P.attempt pages.new).written ≡ (P.attempt pages.old).written }
         ensures met { HandsOn (P.met pages.old) (P.met pages.new) result }
+        ensures looks { IfErr result (λ fault. IsTrue (is_of_looking fault)) }
         ensures asked { ForEach (P.attempt pages.old) (P.attempt pages.new) (λ array. sits (Self.location self.now) array cursor.old →
             P.asked pages.old pages.new (reach (Self.location self.now) array) no_page 0) }
         ensures fits { Fits (Self.location self.now) cursor.new }
@@ -147,6 +158,11 @@ pub trait Store: Drop {
     ghost reached: { (p : Place) (a : Array) (pages : List ℕ) (rows : List (List ℕ)) (page : ℕ) → holds p a pages rows → reach p a page ≡ among pages page };
 
     ghost bear: { (p : Place) (a : Array) (pages : List ℕ) (rows : List (List ℕ)) (page : ℕ) → holds p a pages rows → IsTrue (among pages page) → (page < 65536) × (store_of (a page) ≡ p.store) × (2 ≤ kind_of (a page)) × (kind_of (a page) ≤ 4) };
+
+    // None of its pages is there twice; and the first one of an extent is one of a chain, by whose grammar its last serial is read.
+    ghost once: { (p : Place) (a : Array) (pages : List ℕ) (rows : List (List ℕ)) → holds p a pages rows → IsTrue (each_pair (λ page other. not (page == other)) pages) };
+
+    ghost extent_first: { (p : Place) (a : Array) (pages : List ℕ) (rows : List (List ℕ)) → holds p a pages rows → p.store < 65536 → IsRowPage 2 p.store p.key p.width (a p.first) };
 
     // It depends on its pages alone, and on the last serial not even there.
     ghost depends: { (p : Place) (a b : Array) (pages : List ℕ) (rows : List (List ℕ)) → holds p a pages rows → ((page : ℕ) → IsTrue (among pages page) → b page ≡ a page) → holds p b pages rows };

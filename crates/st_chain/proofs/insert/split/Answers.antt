@@ -1,9 +1,11 @@
-use Rattle.std.proofs.Common.{◌∷◌, ◌++◌, IsTrue, take, drop, arith}
+use Rattle.std.proofs.Common.{◌∷◌, ◌++◌, IsTrue, take, drop, inl, inr, arith}
 use Rattle.st_image.specs.Fields.{rows_of}
+use Rattle.st_pages.specs.Attempt.{over}
 use Rattle.st_pages.specs.Calls.{no_page}
 use Rattle.st_store.specs.Stores.{drew_between}
 use Rattle.st_chain.specs.Changes.{either_of, page_or_drawn}
 use Rattle.st_chain.proofs.Asking.{nowhere}
+use Rattle.st_chain.proofs.Numbered.{of-split, two-put}
 use Rattle.st_chain.proofs.Putting.{drew-later, handed-on, on-ok, some-stays, split-of, split-within}
 use Rattle.st_chain.proofs.insert.split.Goals as goal
 
@@ -36,3 +38,14 @@ returns-clause-split g c =
     split-of c.args.place (attempt c.args.pages.now) (attempt c.draw.new.pages) (attempt c.put_both.new.pages) array c.args.page c.in-Ok.drawn c.args.frame.now c.parted-other.new.page c.set_next.new.self c.parted-other.result
     (take c.args.index rows ++ c.args.row.now ∷ drop c.args.index rows) c.in-Ok.ensures.drawn c.draw.ensures.written c.set_next.ensures is
     (λ p. (g.met.P.Pages.is_sound c.put_both.new.pages).drawn p) agrees c.parted-other.ensures c.requires.kind at)
+
+pub returns-clause-numbers : goal.returns-clause-numbers
+returns-clause-numbers g c = λ array agrees at.
+    let attempt = g.P.Pages.attempt in
+    let old = attempt c.args.pages.now in
+    let new = attempt c.put_both.new.pages in
+    let drawn = c.in-Ok.drawn in
+    let drew : IsTrue (drew_between old new drawn) =
+    drew-later old (attempt c.draw.new.pages) new drawn c.in-Ok.ensures.drawn.drew (g.met.P.Pages.drawn_stays c.draw.new.pages c.put_both.new.pages c.put_both.ensures.follows drawn) in
+    two-put old new array c.put_both.result (attempt c.draw.new.pages) drawn c.args.page c.parted-other.result c.set_next.new.self c.put_both.ensures.ok c.put_both.ensures.err c.draw.ensures.written (inr drew)
+    (inl (of-split c.args.place.width drawn c.args.frame.now c.parted-other.new.page c.set_next.new.self c.parted-other.result _ (over old array c.args.page) c.parted-other.ensures c.set_next.ensures at))

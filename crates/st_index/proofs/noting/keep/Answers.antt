@@ -22,6 +22,7 @@ returns-in_default g c =
           subst (λ (n : ℕ). g.P.Pages.asked c.args.pages.now c.keep_row.new.pages (g.S.Store.reach place array) (λ page. g.S.Store.reach place array page || drew_between (attempt c.args.pages.now) (attempt c.keep_row.new.pages) page) (17 * n)) one (c.keep_row.ensures.asked pages agrees);
       kinds = λ puts. subst (λ (n : ℕ). g.P.Pages.asked c.args.pages.now c.keep_row.new.pages any_page (may_put (attempt c.keep_row.new.pages)) (17 * n)) one (c.keep_row.ensures.kinds puts);
       few = λ pages agrees. subst (λ (n : ℕ). differences (over (attempt c.args.pages.now) pages) (over (attempt c.keep_row.new.pages) pages) ≤ 34 * n) one (c.keep_row.ensures.few pages agrees);
-      changed = ok-changed g.S.Store.holds g.S.Store.reach place (attempt c.args.pages.now) (attempt c.keep_row.new.pages) c.keep_row.result _ _ (λ rows. with-row c.args.kind c.args.entity c.args.value.now c.in_default.not-Null rows) c.keep_row.ensures.changed;
+      numbers = c.keep_row.ensures.numbers;
+      changed = ok-changed g.S.Store.holds g.S.Store.spot g.S.Store.reach (g.P.Pages.asked c.args.pages.now c.keep_row.new.pages) place (attempt c.args.pages.now) (attempt c.keep_row.new.pages) c.keep_row.result _ _ (λ rows. with-row c.args.kind c.args.entity c.args.value.now c.in_default.not-Null rows) c.keep_row.ensures.changed;
       bad = c.keep_row.ensures.bad;
     }

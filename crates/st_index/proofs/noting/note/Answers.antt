@@ -2,27 +2,14 @@ use Rattle.std.proofs.Common.{◌+◌, ◌*◌, ◌≤◌, ◌||◌, List, lengt
 use Rattle.st_pages.specs.declared.places.Place.{Place}
 use Rattle.st_pages.specs.Attempt.{over, may_put}
 use Rattle.st_pages.specs.Reading.{ForEach, OfDamage}
-use Rattle.st_store.specs.Stores.{ForBoth, HasPutStores, any_page, drew_between}
+use Rattle.st_store.specs.Stores.{ForBoth, HasPutStores, KeepNumbers, any_page, drew_between}
 use Rattle.st_index.specs.Turned.{turned_places}
 use Rattle.st_index.specs.Noted.{AllHold, reach_any, rows_for, differences}
 use Rattle.st_index.specs.Change.{one_place, two_places}
 use Rattle.st_index.proofs.Counted.{differences-none}
-use Rattle.st_index.proofs.Called.{PageLaws, noted-of}
+use Rattle.st_index.proofs.Called.{noted-of}
 use Rattle.st_index.proofs.Placed.{apart-places, one-store, placed-turned, two-turned}
-use Rattle.st_index.proofs.noting.note.Given as given
 use Rattle.st_index.proofs.noting.note.Goals as goal
-
-laws : (g : given.Over) → PageLaws g.P.Pages.attempt g.P.Pages.follows g.P.Pages.asked
-laws g = record {
-  is_sound = g.met.P.Pages.is_sound;
-  seen_stays = g.met.P.Pages.seen_stays;
-  drawn_stays = g.met.P.Pages.drawn_stays;
-  drawn_unwritten = g.met.P.Pages.drawn_unwritten;
-  follows_on = g.met.P.Pages.follows_on;
-  asked_more = g.met.P.Pages.asked_more;
-  asked_on = g.met.P.Pages.asked_on;
-  asked_tells = g.met.P.Pages.asked_tells;
-}
 
 pub returns-in_default-clause-few : goal.returns-in_default-clause-few
 returns-in_default-clause-few g c = λ pages agrees. differences-none (over (g.P.Pages.attempt c.args.pages.now) pages) (34 * length (turned_places c.args.attribute c.args.places.now) * (rows_for c.args.old.now + rows_for c.args.new.now))
@@ -71,9 +58,16 @@ returns-clause-few g c =
     subst (λ (ps : List Place). ForBoth A C (λ before after. differences before after ≤ 34 * length ps * (rows_for c.args.old.now + rows_for c.args.new.now)))
     (two-turned c.args.attribute c.args.places.now c.store.result c.store-2.result c.find-index.result c.find-inverse.result c.find-index.ensures.in_order c.store.ensures c.store-2.ensures c.find-index.ensures.place c.find-inverse.ensures.place) c.note_both.ensures.few
 
+pub returns-clause-numbers : goal.returns-clause-numbers
+returns-clause-numbers g c =
+    let A = g.P.Pages.attempt c.args.pages.now in
+    let C = g.P.Pages.attempt c.note_both.new.pages in
+    subst (λ (ps : List Place). ForBoth A C (λ before after. AllHold g.S.Store.holds g.S.Store.reach ps before → KeepNumbers A C before after))
+    (two-turned c.args.attribute c.args.places.now c.store.result c.store-2.result c.find-index.result c.find-inverse.result c.find-index.ensures.in_order c.store.ensures c.store-2.ensures c.find-index.ensures.place c.find-inverse.ensures.place) c.note_both.ensures.numbers
+
 pub returns-clause-noted : goal.returns-clause-noted
 returns-clause-noted g c =
-    noted-of g.P.Pages.attempt g.P.Pages.follows g.P.Pages.asked (laws g) c.args.pages.now c.note_both.new.pages c.note_both.ensures.follows g.S.Store.holds g.S.Store.reach c.args.places.now c.args.attribute
+    noted-of (g.P.Pages.attempt c.args.pages.now) (g.P.Pages.attempt c.note_both.new.pages) g.S.Store.holds g.S.Store.reach c.args.places.now c.args.attribute
     (two_places c.find-index.result c.find-inverse.result) (two-turned c.args.attribute c.args.places.now c.store.result c.store-2.result c.find-index.result c.find-inverse.result c.find-index.ensures.in_order c.store.ensures c.store-2.ensures c.find-index.ensures.place c.find-inverse.ensures.place) c.args.entity c.args.old.now c.args.new.now _ c.in-Some.found.now c.in-Some.ensures c.note_both.result c.note_both.ensures.moved
 
 pub returns-clause-bad : goal.returns-clause-bad

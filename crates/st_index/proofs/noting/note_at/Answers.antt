@@ -4,10 +4,10 @@ use Rattle.st_values.proofs.Tests.{first-of, one-of}
 use Rattle.st_pages.specs.declared.places.Place.{Place}
 use Rattle.st_pages.specs.Attempt.{over}
 use Rattle.st_pages.specs.Reading.{ForEach}
-use Rattle.st_store.specs.Stores.{ForBoth, OfStore, drew_between}
+use Rattle.st_store.specs.Stores.{Changed, ForBoth, KeepNumbers, OfStore, drew_between}
 use Rattle.st_index.specs.Turned.{noted}
 use Rattle.st_index.specs.Noted.{AllHold, reach_any, rows_for}
-use Rattle.st_index.specs.Change.{IsChange, Moved, one_place}
+use Rattle.st_index.specs.Change.{Moved, one_place}
 use Rattle.st_index.proofs.Counted.{differences-none, or-cases}
 use Rattle.st_index.proofs.Changes.{Laws, moved-one, ok-weaken}
 use Rattle.st_index.proofs.noting.note_at.Given as given
@@ -49,9 +49,20 @@ returns-in-Some-clause-moved g c =
     let change : List (List ℕ) → List (List ℕ) = λ rows. noted c.args.kind c.args.entity c.args.old.now c.args.new.now rows in
     subst (λ (o : Option Place). OnOk c.note_in.result (ForBoth A C (λ before after. AllHold holds reach (one_place o) before → Moved holds reach (one_place o) change A C before after)))
     (sym c.in-Some.is)
-    (ok-weaken (ForBoth A C (λ before after. OfStore holds p before (λ had rows. IsChange holds reach p A C before after had (change rows))))
+    (ok-weaken (ForBoth A C (λ before after. OfStore holds p before (λ had rows. Changed holds g.S.Store.spot (g.P.Pages.asked c.args.pages.now c.note_in.new.pages) reach p A C before after had (change rows))))
     (ForBoth A C (λ before after. AllHold holds reach (one_place (Some p)) before → Moved holds reach (one_place (Some p)) change A C before after)) c.note_in.result
-    (λ first pages agrees all. moved-one holds reach (stores g) p change A C (over A pages) (over C pages) (first pages agrees) all) c.note_in.ensures.changed)
+    (λ first pages agrees all. moved-one holds reach (stores g) g.S.Store.spot (g.P.Pages.asked c.args.pages.now c.note_in.new.pages) p change A C (over A pages) (over C pages) (first pages agrees) all) c.note_in.ensures.changed)
+
+pub returns-in-Some-clause-numbers : goal.returns-in-Some-clause-numbers
+returns-in-Some-clause-numbers g c =
+    let A = g.P.Pages.attempt c.args.pages.now in
+    let C = g.P.Pages.attempt c.note_in.new.pages in
+    let holds = g.S.Store.holds in
+    let p = c.in-Some.place in
+    subst (λ (o : Option Place). ForBoth A C (λ before after. AllHold holds g.S.Store.reach (one_place o) before → KeepNumbers A C before after)) (sym c.in-Some.is)
+    (λ pages agrees all.
+    let held = All-head (λ q. (had : List ℕ) × (rows : List (List ℕ)) × holds q (over A pages) had rows) p [] all in
+    c.note_in.ensures.numbers pages agrees held.0 held.1 held.2)
 
 pub returns-in-None-clause-few : goal.returns-in-None-clause-few
 returns-in-None-clause-few g c = λ pages agrees. differences-none (over (g.P.Pages.attempt c.args.pages.now) pages) (34 * length (one_place c.args.place) * (rows_for c.args.old.now + rows_for c.args.new.now))

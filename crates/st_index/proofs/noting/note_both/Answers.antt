@@ -11,7 +11,7 @@ use Rattle.st_index.specs.Noted.{AllHold, reach_any, rows_for}
 use Rattle.st_index.specs.Change.{one_place, two_places}
 use Rattle.st_index.proofs.Counted.{or-cases}
 use Rattle.st_index.proofs.Changes.{Laws, all-first, damage-weaken}
-use Rattle.st_index.proofs.Called.{PageLaws, both-asked, both-bad, both-moved, few-then, kinds-then, times}
+use Rattle.st_index.proofs.Called.{PageLaws, both-asked, both-bad, both-moved, both-numbers, few-then, kinds-then, times}
 use Rattle.st_index.proofs.noting.note_both.Given as given
 use Rattle.st_index.proofs.noting.note_both.Goals as goal
 
@@ -59,6 +59,12 @@ returns-in-Ok-clause-moved g c =
     (one_place c.args.index) (one_place c.args.inverse) c.requires.apart (λ rows. noted c.args.kind c.args.entity c.args.old.now c.args.new.now rows) c.in-Ok.ensures.moved
     c.note_at-in-Ok.result c.note_at-in-Ok.ensures.moved
 
+pub returns-in-Ok-clause-numbers : goal.returns-in-Ok-clause-numbers
+returns-in-Ok-clause-numbers g c =
+    both-numbers g.P.Pages.attempt g.P.Pages.follows g.P.Pages.asked (laws g) c.args.pages.now c.note_at.new.pages c.note_at-in-Ok.new.pages c.note_at.ensures.follows c.note_at-in-Ok.ensures.follows g.S.Store.holds g.S.Store.reach (stores g)
+    (one_place c.args.index) (one_place c.args.inverse) c.requires.apart (λ rows. noted c.args.kind c.args.entity c.args.old.now c.args.new.now rows) c.in-Ok.ensures.moved
+    c.note_at.ensures.numbers c.note_at-in-Ok.ensures.numbers
+
 pub returns-in-Ok-clause-bad : goal.returns-in-Ok-clause-bad
 returns-in-Ok-clause-bad g c =
     both-bad g.P.Pages.attempt g.P.Pages.follows g.P.Pages.asked (laws g) c.args.pages.now c.note_at.new.pages c.note_at-in-Ok.new.pages c.note_at.ensures.follows c.note_at-in-Ok.ensures.follows g.S.Store.holds g.S.Store.reach (stores g)
@@ -85,6 +91,11 @@ returns-in-Err-clause-asked g c = λ pages agrees all.
     ])
     (let sum = times 17 (length ps) (length qs) (length (two_places c.args.index c.args.inverse)) (rows_for c.args.new.now) (length-append ps qs) in omega (arith, sum))
     (c.note_at.ensures.asked pages agrees held)
+
+pub returns-in-Err-clause-numbers : goal.returns-in-Err-clause-numbers
+returns-in-Err-clause-numbers g c = λ pages agrees all.
+    let A = g.P.Pages.attempt c.args.pages.now in
+    c.note_at.ensures.numbers pages agrees (all-first (λ q. (had : List ℕ) × (rows : List (List ℕ)) × g.S.Store.holds q (over A pages) had rows) (one_place c.args.index) (one_place c.args.inverse) all)
 
 pub returns-in-Err-clause-bad : goal.returns-in-Err-clause-bad
 returns-in-Err-clause-bad g c =

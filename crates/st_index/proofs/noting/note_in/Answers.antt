@@ -1,13 +1,13 @@
 use Rattle.std.proofs.Common.{ℕ, ◌*◌, ◌||◌, List, IfErr, OnOk, subst, arith}
+use Rattle.st_values.proofs.Tests.{first-of}
 use Rattle.st_pages.specs.declared.places.Place.{Place}
 use Rattle.st_pages.specs.Attempt.{Array, Agrees, over}
 use Rattle.st_pages.specs.Reading.{ForEach, OfDamage}
-use Rattle.st_store.specs.Stores.{ForBoth, OfStore, drew_between}
+use Rattle.st_store.specs.Stores.{Changed, ForBoth, KeepNumbers, OfStore, drew_between}
 use Rattle.st_index.specs.Turned.{noted, without_value, with_value}
 use Rattle.st_index.specs.Noted.{rows_for}
-use Rattle.st_index.specs.Change.{IsChange}
 use Rattle.st_index.proofs.Changes.{Laws, damage-weaken}
-use Rattle.st_index.proofs.Called.{PageLaws, earlier, few-then, kinds-then, one-asked, changed-then, bad-then}
+use Rattle.st_index.proofs.Called.{PageLaws, earlier, few-then, kinds-then, one-asked, one-numbers, changed-then, bad-then}
 use Rattle.st_index.proofs.noting.note_in.Given as given
 use Rattle.st_index.proofs.noting.note_in.Goals as goal
 
@@ -36,7 +36,7 @@ returns-in-Ok-clause-asked g c =
     c.at-store.ensures
     (λ pages agrees had rows holds.
     let mid = earlier (attempt c.forget.new.pages) (attempt c.keep.new.pages) pages (g.met.P.Pages.seen_stays c.forget.new.pages c.keep.new.pages c.keep.ensures.follows) agrees in
-    one-asked attempt g.P.Pages.follows g.P.Pages.asked (laws g) c.args.pages.now c.forget.new.pages c.keep.new.pages c.forget.ensures.follows c.keep.ensures.follows g.S.Store.holds g.S.Store.reach (stores g) loc
+    one-asked attempt g.P.Pages.follows g.P.Pages.asked (laws g) c.args.pages.now c.forget.new.pages c.keep.new.pages c.forget.ensures.follows c.keep.ensures.follows g.S.Store.holds g.S.Store.spot g.S.Store.reach (stores g) loc
     (over (attempt c.args.pages.now) pages) (over (attempt c.forget.new.pages) pages) had rows (without_value c.args.kind c.args.entity c.args.old.now rows) n holds (c.in-Ok.ensures.changed pages mid had rows holds)
     (c.forget.ensures.asked pages mid) (c.keep.ensures.asked pages agrees))
 
@@ -56,9 +56,9 @@ returns-in-Ok-clause-changed g c =
     let f : List (List ℕ) → List (List ℕ) = λ rows. without_value c.args.kind c.args.entity c.args.old.now rows in
     let h : List (List ℕ) → List (List ℕ) = λ rows. with_value c.args.kind c.args.entity c.args.new.now rows in
     subst (λ (p : Place). OnOk c.keep.result (ForBoth (attempt c.args.pages.now) (attempt c.keep.new.pages) (λ before after. OfStore g.S.Store.holds p before (λ had rows.
-    IsChange g.S.Store.holds g.S.Store.reach p (attempt c.args.pages.now) (attempt c.keep.new.pages) before after had (noted c.args.kind c.args.entity c.args.old.now c.args.new.now rows)))))
+    Changed g.S.Store.holds g.S.Store.spot (g.P.Pages.asked c.args.pages.now c.keep.new.pages) g.S.Store.reach p (attempt c.args.pages.now) (attempt c.keep.new.pages) before after had (noted c.args.kind c.args.entity c.args.old.now c.args.new.now rows)))))
     c.at-store.ensures
-    (changed-then attempt g.P.Pages.follows g.P.Pages.asked (laws g) c.args.pages.now c.forget.new.pages c.keep.new.pages c.forget.ensures.follows c.keep.ensures.follows g.S.Store.holds g.S.Store.reach (stores g)
+    (changed-then attempt g.P.Pages.follows g.P.Pages.asked (laws g) c.args.pages.now c.forget.new.pages c.keep.new.pages c.forget.ensures.follows c.keep.ensures.follows g.S.Store.holds g.S.Store.spot g.S.Store.reach (stores g)
     (g.S.Store.location c.at-store.result) f h c.keep.result c.in-Ok.ensures.changed c.keep.ensures.changed)
 
 pub returns-in-Ok-clause-bad : goal.returns-in-Ok-clause-bad
@@ -67,7 +67,7 @@ returns-in-Ok-clause-bad g c =
     let f : List (List ℕ) → List (List ℕ) = λ rows. without_value c.args.kind c.args.entity c.args.old.now rows in
     subst (λ (p : Place). IfErr c.keep.result (OfDamage (λ page at. ForEach (attempt c.args.pages.now) (attempt c.keep.new.pages) (λ array. OfStore g.S.Store.holds p array (λ _ _. ⊥)))))
     c.at-store.ensures
-    (bad-then attempt g.P.Pages.follows g.P.Pages.asked (laws g) c.args.pages.now c.forget.new.pages c.keep.new.pages c.forget.ensures.follows c.keep.ensures.follows g.S.Store.holds g.S.Store.reach (stores g)
+    (bad-then attempt g.P.Pages.follows g.P.Pages.asked (laws g) c.args.pages.now c.forget.new.pages c.keep.new.pages c.forget.ensures.follows c.keep.ensures.follows g.S.Store.holds g.S.Store.spot g.S.Store.reach (stores g)
     (g.S.Store.location c.at-store.result) f g.S.Store.bad g.met.S.Store.never_bad c.keep.result c.in-Ok.ensures.changed c.keep.ensures.bad)
 
 pub returns-clause-bad : goal.returns-clause-bad
@@ -78,3 +78,33 @@ returns-clause-bad g c =
     c.at-store.ensures
     (damage-weaken (λ page at. ForEach (attempt c.args.pages.now) (attempt c.forget.new.pages) (λ array. g.S.Store.bad loc array page at)) (λ page at. ForEach (attempt c.args.pages.now) (attempt c.forget.new.pages) (λ array. OfStore g.S.Store.holds loc array (λ _ _. ⊥)))
     (λ page at wrong pages agrees had rows holds. g.met.S.Store.never_bad loc (over (attempt c.args.pages.now) pages) had rows page at (wrong pages agrees) holds) c.in-Err.fault c.in-Err.ensures.bad)
+
+pub returns-clause-asked : goal.returns-clause-asked
+returns-clause-asked g c =
+    let attempt = g.P.Pages.attempt in
+    let A = attempt c.args.pages.now in
+    let B = attempt c.forget.new.pages in
+    let loc = g.S.Store.location c.at-store.result in
+    let reach = g.S.Store.reach in
+    let n : ℕ = 17 * rows_for c.args.new.now in
+    subst (λ (p : Place). (pages : Array) → Agrees B pages → OfStore g.S.Store.holds p (over A pages) (λ had rows.
+    g.P.Pages.asked c.args.pages.now c.forget.new.pages (reach p (over A pages)) (λ page. reach p (over A pages) page || drew_between A B page) n))
+    c.at-store.ensures
+    (λ pages agrees had rows holds.
+    g.met.P.Pages.asked_more c.args.pages.now c.forget.new.pages (reach loc (over A pages)) (reach loc (over A pages)) (reach loc (over A pages)) (λ page. reach loc (over A pages) page || drew_between A B page) 0 n
+    (λ page e. e) (λ page e. first-of (reach loc (over A pages) page) (drew_between A B page) e) (omega arith) (c.forget.ensures.asked pages agrees))
+
+pub returns-in-Ok-clause-numbers : goal.returns-in-Ok-clause-numbers
+returns-in-Ok-clause-numbers g c =
+    let attempt = g.P.Pages.attempt in
+    let f : List (List ℕ) → List (List ℕ) = λ rows. without_value c.args.kind c.args.entity c.args.old.now rows in
+    subst (λ (p : Place). ForBoth (attempt c.args.pages.now) (attempt c.keep.new.pages) (λ before after. OfStore g.S.Store.holds p before (λ _ _. KeepNumbers (attempt c.args.pages.now) (attempt c.keep.new.pages) before after)))
+    c.at-store.ensures
+    (one-numbers attempt g.P.Pages.follows g.P.Pages.asked (laws g) c.args.pages.now c.forget.new.pages c.keep.new.pages c.forget.ensures.follows c.keep.ensures.follows g.S.Store.holds g.S.Store.spot g.S.Store.reach (stores g)
+    (g.S.Store.location c.at-store.result) f c.in-Ok.ensures.changed c.forget.ensures.numbers c.keep.ensures.numbers)
+
+pub returns-clause-numbers : goal.returns-clause-numbers
+returns-clause-numbers g c =
+    let attempt = g.P.Pages.attempt in
+    subst (λ (p : Place). ForBoth (attempt c.args.pages.now) (attempt c.forget.new.pages) (λ before after. OfStore g.S.Store.holds p before (λ _ _. KeepNumbers (attempt c.args.pages.now) (attempt c.forget.new.pages) before after)))
+    c.at-store.ensures c.forget.ensures.numbers

@@ -1,16 +1,19 @@
-use Rattle.std.proofs.Common.{◌≡◌, ℕ, ◌+◌, ◌≤◌, ◌||◌, Bool, take, IfOk, IsSome, IsTrue, false, refl, ap, subst, ◌∙◌, arith}
+use Rattle.std.proofs.Common.{◌≡◌, ℕ, ◌+◌, ◌≤◌, ◌||◌, Bool, take, IfOk, IsSome, IsTrue, Some, false, refl, sym, ap, subst, ◌∙◌, arith}
+use Rattle.std.specs.Prelude.{is_some}
 use Rattle.st_image.specs.Fields.{kind_of}
 use Rattle.st_pages.specs.Attempt.{Array, Agrees, may_put, over, page_count}
 use Rattle.st_pages.specs.Calls.{no_page, only}
 use Rattle.st_pages.specs.declared.places.Place.{Place}
-use Rattle.st_pages.proofs.Carried.{over-same}
-use Rattle.st_store.specs.Stores.{ForBoth, Inserted, OfStore, any_page, changes, drew_between}
+use Rattle.st_pages.proofs.Carried.{only-within, over-same}
+use Rattle.st_store.specs.Rows.{row_with}
+use Rattle.st_store.specs.Stores.{ForBoth, Inserted, IsSame, OfStore, any_page, changes, drew_between}
 use Rattle.st_store.specs.Chain.{IsChainOf, IsSpot, is_on_chain}
 use Rattle.st_store.proofs.Ordering.{key-of-key}
 use Rattle.st_chain.specs.Changes.{IsPutIn, page_or_drawn}
 use Rattle.st_chain.proofs.Asking.{if-ok, itself, nowhere, reach-within}
 use Rattle.st_chain.proofs.Counted.{drew-none, drew-same, few, few-drawn, few-none, may-grow, may-put-page, may-within, seen-agrees, seen_array}
-use Rattle.st_chain.proofs.Stored.{inserted}
+use Rattle.st_chain.proofs.Numbered.{keep-under, same-under}
+use Rattle.st_chain.proofs.Stored.{found-on, inserted}
 use Rattle.st_chain.proofs.chain.ChainStore.insert.Goals as goal
 
 pub returns-in-Err-clause-kinds : goal.returns-in-Err-clause-kinds
@@ -110,3 +113,51 @@ returns-clause-inserted g c =
     (g.met.P.Pages.asked_more _ _ no_page (only spot.page) reach (only spot.page) 0 0 (nowhere reach) (itself (only spot.page)) (omega arith) (alone is)))
     (subst (λ (x : Array). IsPutIn place (drew_between old new) x (over new array) spot.page frame row was) same
     (subst (λ (d : ℕ → Bool). IsPutIn place d (over mid array) (over new array) spot.page frame row was) (drew-same old mid new drawn none) there))))
+
+pub returns-clause-numbers : goal.returns-clause-numbers
+returns-clause-numbers g c = λ array agrees pages rows chain.
+    let attempt = g.P.Pages.attempt in
+    let old = attempt c.args.pages.now in
+    let mid = attempt c.locate.new.pages in
+    let new = attempt c.put_in.new.pages in
+    let spot = c.in-Ok.spot in
+    let earlier : Agrees mid array = λ p image e. agrees p image (g.met.P.Pages.seen_stays c.locate.new.pages c.put_in.new.pages c.put_in.ensures.follows p image e) in
+    let same : over mid array ≡ over old array = over-same old mid array c.locate.ensures.written in
+    keep-under old mid new array c.locate.ensures.written (g.met.P.Pages.drawn_stays c.args.pages.now c.locate.new.pages c.locate.ensures.follows)
+    (c.put_in.ensures.numbers array agrees (ap (λ (x : Array). x spot.page) same ∙ (c.in-Ok.ensures.located array earlier).come.at))
+
+pub returns-clause-there : goal.returns-clause-there
+returns-clause-there g c = λ array agrees.
+    let attempt = g.P.Pages.attempt in
+    let old = attempt c.args.pages.now in
+    let mid = attempt c.locate.new.pages in
+    let place = c.self.inside.place in
+    let spot = c.in-Ok.spot in
+    let row = c.args.row.now in
+    let reach = is_on_chain place (over old array) in
+    let earlier : Agrees mid array = λ p image e. agrees p image (g.met.P.Pages.seen_stays c.locate.new.pages c.put_in.new.pages c.put_in.ensures.follows p image e) in
+    subst (λ (q : Place). OfStore IsChainOf q (over old array) (λ _ rows. IsTrue (is_some (row_with q.key row rows)) →
+    g.P.Pages.asked c.args.pages.now c.put_in.new.pages (is_on_chain q (over old array)) (is_on_chain q (over old array)) 0)) c.self.view_is
+    (λ pages rows chain some.
+    let found = found-on place (over old array) pages rows (take place.key row) row spot c.locate.new.frame chain (c.in-Ok.ensures.located array earlier) c.in-Ok.ensures.sound (key-of-key place.key row) in
+    g.met.P.Pages.asked_on c.args.pages.now c.locate.new.pages c.put_in.new.pages reach reach 0 0 c.locate.ensures.follows c.put_in.ensures.follows
+    (g.met.P.Pages.asked_more _ _ reach no_page reach reach 0 0 (itself reach) (nowhere reach) (omega arith) (c.locate.ensures.asked array earlier))
+    (g.met.P.Pages.asked_more _ _ no_page (only spot.page) reach reach 0 0 (nowhere reach) (only-within reach spot.page (c.in-Ok.ensures.reached array earlier)) (omega arith)
+    (c.put_in.ensures.there (ap is_some (sym found) ∙ some))))
+
+pub returns-clause-same : goal.returns-clause-same
+returns-clause-same g c = λ array agrees.
+    let attempt = g.P.Pages.attempt in
+    let old = attempt c.args.pages.now in
+    let mid = attempt c.locate.new.pages in
+    let new = attempt c.put_in.new.pages in
+    let place = c.self.inside.place in
+    let spot = c.in-Ok.spot in
+    let row = c.args.row.now in
+    let earlier : Agrees mid array = λ p image e. agrees p image (g.met.P.Pages.seen_stays c.locate.new.pages c.put_in.new.pages c.put_in.ensures.follows p image e) in
+    let same : over mid array ≡ over old array = over-same old mid array c.locate.ensures.written in
+    let located = c.in-Ok.ensures.located array earlier in
+    subst (λ (q : Place). OfStore IsChainOf q (over old array) (λ _ rows. row_with q.key row rows ≡ Some row → IsSame (over old array) (over new array))) c.self.view_is
+    (λ pages rows chain is.
+    let found = found-on place (over old array) pages rows (take place.key row) row spot c.locate.new.frame chain located c.in-Ok.ensures.sound (key-of-key place.key row) in
+    same-under old mid new array c.locate.ensures.written (c.put_in.ensures.same (sym found ∙ is) array agrees (ap (λ (x : Array). x spot.page) same ∙ located.come.at)))

@@ -1,16 +1,18 @@
-use Rattle.std.proofs.Common.{◌≡◌, ℕ, ◌+◌, ◌≤◌, IfOk, IfSome, IsSome, IsTrue, false, refl, ap, subst, ◌∙◌, arith}
+use Rattle.std.proofs.Common.{◌≡◌, ℕ, ◌+◌, ◌≤◌, IfOk, IfSome, IsSome, IsTrue, None, false, refl, sym, ap, subst, ◌∙◌, arith}
 use Rattle.st_image.specs.Fields.{kind_of}
 use Rattle.st_pages.specs.Attempt.{Array, Agrees, may_put, over, page_count}
 use Rattle.st_pages.specs.Calls.{no_page, only}
 use Rattle.st_pages.specs.declared.places.Place.{Place}
 use Rattle.st_pages.proofs.Carried.{over-same}
-use Rattle.st_store.specs.Stores.{ForBoth, OfStore, Removed, any_page, changes, drew_between}
+use Rattle.st_store.specs.Rows.{row_with}
+use Rattle.st_store.specs.Stores.{ForBoth, IsSame, OfStore, Removed, any_page, changes, drew_between}
 use Rattle.st_store.specs.Chain.{IsChainOf, IsSpot, is_on_chain}
 use Rattle.st_chain.specs.Changes.{IsTakenOut, is_previous, spot_or_previous}
 use Rattle.st_chain.proofs.Asking.{around-within, front-each, front-within, if-ok, itself, nowhere}
 use Rattle.st_chain.proofs.Counted.{drew-more, drew-none, few, few-around, few-none, front-may, may-grow, may-put-page, seen-agrees, seen_array, some-both}
 use Rattle.st_chain.proofs.Fronts.{front-kind}
-use Rattle.st_chain.proofs.Stored.{removed}
+use Rattle.st_chain.proofs.Numbered.{keep-under, same-under}
+use Rattle.st_chain.proofs.Stored.{found-on, removed}
 use Rattle.st_chain.proofs.chain.ChainStore.remove.Goals as goal
 
 pub returns-in-Err-clause-kinds : goal.returns-in-Err-clause-kinds
@@ -113,3 +115,32 @@ returns-clause-removed g c =
     (g.met.P.Pages.asked_more _ _ reach no_page reach (only spot.page) 0 0 (itself reach) (nowhere (only spot.page)) (omega arith) (c.locate.ensures.asked array earlier))
     (g.met.P.Pages.asked_more _ _ no_page (only spot.page) reach (only spot.page) 0 0 (nowhere reach) (itself (only spot.page)) (omega arith) (alone is)))
     none (subst (λ (x : Array). IsTakenOut place x (over new array) spot frame key was) same there)))
+
+pub returns-clause-numbers : goal.returns-clause-numbers
+returns-clause-numbers g c = λ array agrees pages rows chain.
+    let attempt = g.P.Pages.attempt in
+    let old = attempt c.args.pages.now in
+    let mid = attempt c.locate.new.pages in
+    let new = attempt c.take_out.new.pages in
+    let spot = c.in-Ok.spot in
+    let earlier : Agrees mid array = λ p image e. agrees p image (g.met.P.Pages.seen_stays c.locate.new.pages c.take_out.new.pages c.take_out.ensures.follows p image e) in
+    let same : over mid array ≡ over old array = over-same old mid array c.locate.ensures.written in
+    keep-under old mid new array c.locate.ensures.written (g.met.P.Pages.drawn_stays c.args.pages.now c.locate.new.pages c.locate.ensures.follows)
+    (c.take_out.ensures.numbers array agrees (ap (λ (x : Array). x spot.page) same ∙ (c.in-Ok.ensures.located array earlier).come.at))
+
+pub returns-clause-same : goal.returns-clause-same
+returns-clause-same g c = λ array agrees.
+    let attempt = g.P.Pages.attempt in
+    let old = attempt c.args.pages.now in
+    let mid = attempt c.locate.new.pages in
+    let new = attempt c.take_out.new.pages in
+    let place = c.self.inside.place in
+    let spot = c.in-Ok.spot in
+    let key = c.args.key.now in
+    let earlier : Agrees mid array = λ p image e. agrees p image (g.met.P.Pages.seen_stays c.locate.new.pages c.take_out.new.pages c.take_out.ensures.follows p image e) in
+    let same : over mid array ≡ over old array = over-same old mid array c.locate.ensures.written in
+    let located = c.in-Ok.ensures.located array earlier in
+    subst (λ (q : Place). OfStore IsChainOf q (over old array) (λ _ rows. row_with q.key key rows ≡ None → IsSame (over old array) (over new array))) c.self.view_is
+    (λ pages rows chain none.
+    let found = found-on place (over old array) pages rows key key spot c.locate.new.frame chain located c.in-Ok.ensures.sound refl in
+    same-under old mid new array c.locate.ensures.written (c.take_out.ensures.same (sym found ∙ none) array agrees (ap (λ (x : Array). x spot.page) same ∙ located.come.at)))
