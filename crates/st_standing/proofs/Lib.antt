@@ -1,0 +1,14 @@
+pub mod Filtered
+pub mod RowLaws
+pub mod OfKind
+pub mod Sets
+pub mod Columns
+pub mod ValueAt
+pub mod Others
+pub mod Extents
+pub mod Converse
+pub mod Fitting
+pub mod Listed
+pub mod Numbered
+pub mod OneState
+pub mod Turning
