@@ -1,0 +1,10 @@
+pub mod Walked
+pub mod Found
+pub mod Placed
+pub mod Lived
+pub mod Listed
+pub mod Rowed
+pub mod Celled
+pub mod Sound
+pub mod Memory
+pub mod Valued
