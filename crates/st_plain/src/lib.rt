@@ -12,5 +12,6 @@ mod rules;
 pub use base::Base;
 pub use fault::BaseFault;
 pub use plain::Plain;
+pub use rules::{by_number, needed_by, shared_with, spent};
 pub use st_page::PageFault;
 pub use st_state::Refusal;
