@@ -2,6 +2,8 @@
 use Rattle.std.proofs.Common.{◌≡◌, ℕ, zero, suc, ◌<◌, ◌≤◌, ◌⊎◌, ◌^◌, ◌==◌, if◌then◌else◌, Bool, true, false, List, [], ◌∷◌, ◌++◌, take, drop, Some, IsTrue, refl, sym, ap, subst, ◌∙◌, inl, inr, arith, append_assoc, append-nil, true≢false}
 use Rattle.std.specs.Prelude.{not, ◌&&◌, slice_get}
 use Rattle.std.specs.List.{list_all, list_any}
+use Rattle.std.specs.Ordering.{is_lt, nat_cmp}
+use Rattle.std.specs.Cmp.Lexicographic.{slice_cmp}
 use Rattle.std.proofs.lemmas.Bool.{eqb-true}
 use Rattle.st_values.specs.Arranged.{ascends, each_pair}
 use Rattle.st_values.proofs.Tests.{both, either, first-of, left, one-of, other-of, right}
@@ -191,6 +193,18 @@ not-in-front p a key page other front mid leads below up_to =
     goes-on : (first : ℕ) (front : List ℕ) → LeadTo p a first (front ++ page ∷ mid) other → 0 < next_of (a page)
     goes-on first [] l = l.2
     goes-on first (f ∷ front) l = goes-on (next_of (a f)) front l.3
+
+-- the spot of a row depends on its key alone
+pub spot-of-key : (p : Place) (a : Array) (row other : List ℕ) (page : ℕ) → take p.key row ≡ take p.key other → IsSpot p a row page → IsSpot p a other page
+spot-of-key p a row other page e spot = record {
+  pages = spot.pages;
+  way = spot.way;
+  before = subst (λ (key : List ℕ). list_all (λ x. is_lt (slice_cmp nat_cmp (take p.key x) key)) (rows_in p a spot.pages) ≡ true) e spot.before;
+  up_to = elim spot.up_to [
+    | inl last ↦ inl last
+    | inr up ↦ inr (subst (λ (key : List ℕ). list_any (λ x. not (is_lt (slice_cmp nat_cmp (take p.key x) key))) (rows_of p.width (a page)) ≡ true) e up)
+  ];
+}
 
 pub one-spot : (p : Place) (a : Array) (pages : List ℕ) (rows : List (List ℕ)) (key : List ℕ) (page other : ℕ) → IsChainOf p a pages rows → IsSpot p a key page → IsSpot p a key other → page ≡ other
 one-spot p a pages rows key page other chain spot again =

@@ -78,6 +78,8 @@ impl Store for Chain {
 
     ghost one_spot = { laws.one-spot };
 
+    ghost spot_of_key = { laws.spot-of-key };
+
     ghost stands_there = { λ p a pages rows row page index chain here leaf at. laws.stands-there p a pages rows row page index chain here at };
 
     ghost ahead_depends = { laws.ahead-depends };

@@ -1,4 +1,4 @@
-ghost use Rattle.std.specs.Prelude.{◌≡◌, ◌<◌, ◌≤◌, ◌^◌, ◌==◌, ◌||◌, not, ℕ, Bool, List, length, slice_get, is_some, Some, None, IsSome, IsTrue, OnOk, OnErr, IfOk, IfErr, if◌then◌else◌};
+ghost use Rattle.std.specs.Prelude.{◌≡◌, ◌<◌, ◌≤◌, ◌^◌, ◌==◌, ◌||◌, not, ℕ, Bool, List, length, slice_get, take, is_some, Some, None, IsSome, IsTrue, OnOk, OnErr, IfOk, IfErr, if◌then◌else◌};
 ghost use Rattle.st_values.specs.Arranged.{each_pair};
 ghost use Rattle.st_image.specs.Fields.{kind_of, store_of, rows_of, with_last_serial};
 ghost use Rattle.st_image.specs.Grammar.{IsRowPage};
@@ -172,8 +172,10 @@ pub trait Store: Drop {
 
     ghost never_bad: { (p : Place) (a : Array) (pages : List ℕ) (rows : List (List ℕ)) (page at : ℕ) → bad p a page at → holds p a pages rows → ⊥ };
 
-    // Each key has one spot, and a row stands on that of its key.
+    // Each key has one spot, whatever is behind it in a row, and a row stands on that of its key.
     ghost one_spot: { (p : Place) (a : Array) (pages : List ℕ) (rows : List (List ℕ)) (key : List ℕ) (page other : ℕ) → holds p a pages rows → spot p a key page → spot p a key other → page ≡ other };
+
+    ghost spot_of_key: { (p : Place) (a : Array) (row other : List ℕ) (page : ℕ) → take p.key row ≡ take p.key other → spot p a row page → spot p a other page };
 
     ghost stands_there: { (p : Place) (a : Array) (pages : List ℕ) (rows : List (List ℕ)) (row : List ℕ) (page index : ℕ) → holds p a pages rows → IsTrue (among pages page) → kind_of (a page) < 4 →
         slice_get (rows_of p.width (a page)) index ≡ Some row → spot p a row page };
