@@ -3,3 +3,4 @@ pub mod Changes
 pub mod Called
 pub mod Placed
 pub mod Looked
+pub mod Named

@@ -1,5 +1,6 @@
 -- Rows of indexes and inverses that are none, with their places.
 use Rattle.std.specs.Prelude.{◌≡◌, ℕ, ◌+◌, ◌*◌, ◌⊎◌, Bool, true, false, List, slice_get, Some, IsTrue, ⊤}
+use Rattle.std.specs.List.{All}
 use Rattle.st_values.specs.declared.value.EntityId.{EntityId}
 use Rattle.st_values.specs.declared.value.Kind.{Kind}
 use Rattle.st_values.specs.declared.value.Kind.TheVariants as kind
@@ -15,7 +16,8 @@ use Rattle.st_pages.specs.declared.places.Place.{Place}
 use Rattle.st_rows.specs.declared.fault.RowFault.{RowFault}
 use Rattle.st_rows.specs.declared.fault.RowFault.TheVariants.{BadRow, Memory}
 use Rattle.st_rows.specs.Rows.{pair_fields, RowRefused}
-use Rattle.st_index.specs.Turned.{turned_row}
+use Rattle.st_state.specs.State.{Pair}
+use Rattle.st_index.specs.Turned.{turned_row, AreOfPairs}
 
 -- whether the type of a value that is an entity is of a kind's; any other value is
 abbrev pub is_of_kind : Outline → Kind → Value → Bool
@@ -55,3 +57,22 @@ pub record HasBadPair (schema : Outline) (a : Attribute) (place : Place) (reach 
   pub offset : ℕ
   pub bad : IsBadPair schema a row offset
   pub at_is : at ≡ 16 + index * place.width + offset
+
+-- a pair names entities of the right types: as its value, and as the one that has it
+pub record IsNamed (schema : Outline) (a : Attribute) (pair : Pair) : Type 0 where
+  pub value : is_of_kind schema a.kind pair.value ≡ true
+  pub owner : isa schema pair.entity.ty a.owner ≡ true
+
+-- a row is that of such a pair
+pub record IsNamedRow (schema : Outline) (a : Attribute) (row : List ℕ) : Type 0 where
+  pub pair : Pair
+  pub fits : Fits a.kind pair.value
+  pub is_entity : IsEntity pair.entity
+  pub is : turned_row a.kind pair.value pair.entity ≡ row
+  pub named : IsNamed schema a pair
+
+-- rows are those of such pairs
+pub record AreNamed (schema : Outline) (a : Attribute) (rows : List (List ℕ)) : Type 0 where
+  pub pairs : List Pair
+  pub are : AreOfPairs a.kind rows pairs
+  pub named : All (IsNamed schema a) pairs

@@ -1,11 +1,12 @@
 -- The rows of indexes and inverses: a value, and an entity that has it.
-use Rattle.std.specs.Prelude.{◌≡◌, ℕ, ◌==◌, ◌||◌, Bool, true, List, map, filter, Option, ⊤}
+use Rattle.std.specs.Prelude.{◌≡◌, ℕ, ◌≤◌, ◌==◌, ◌||◌, Bool, true, List, length, map, filter, Option, ⊤}
 use Rattle.std.specs.Option.{option_or}
 use Rattle.std.specs.List.{All}
 use Rattle.st_values.specs.declared.value.EntityId.{EntityId}
 use Rattle.st_values.specs.declared.value.Kind.{Kind}
+use Rattle.st_values.specs.declared.value.Kind.TheVariants as kind
 use Rattle.st_values.specs.declared.value.Value.{Value}
-use Rattle.st_values.specs.declared.value.Value.TheVariants.{Null}
+use Rattle.st_values.specs.declared.value.Value.TheVariants.{Null, Int, Bool as Truth, Text, Entity}
 use Rattle.st_values.specs.Order.{same_value}
 use Rattle.st_keys.specs.Keys.{Fits, IsEntity}
 use Rattle.st_lattice.specs.declared.stores.StoreKind.TheVariants.{Index, Inverse}
@@ -19,6 +20,14 @@ use Rattle.st_store.specs.Rows.{with_row, without_row}
 -- the row of a value and an entity that has it
 abbrev pub turned_row : Kind → Value → EntityId → List ℕ
 turned_row kind value entity = row (pair_fields kind true) (pair_values true value entity)
+
+-- a value is of a kind, and fits it but for what the program's types say of integers and texts
+abbrev pub IsLike : Kind → Value → Type 0
+IsLike kind.Int (Int number) = ⊤
+IsLike kind.Bool (Truth truth) = ⊤
+IsLike (kind.Text limit) (Text text) = length text ≤ limit
+IsLike (kind.Entity ty) (Entity entity) = IsEntity entity
+IsLike _ _ = ⊥
 
 -- a value is null, or fits a kind
 abbrev pub IsOrNull : Kind → Value → Type 0

@@ -7,4 +7,5 @@ mod reading;
 mod turned;
 
 pub use noting::note;
+pub use pair::is_of_kind;
 pub use reading::{fits, lookup};

@@ -12,8 +12,9 @@ use st_rows::{Field, RowFault, field_width, read_pair};
 use st_values::{EntityId, Kind, Value};
 use std::alloc::Global;
 
-/// Whether the type of a value that is an entity is of a kind's; any other value is.
-fn is_of_kind(schema: &Schema, kind: Kind, value: &Value) -> bool
+/// Whether a value is of a kind as far as its type goes, by `is_of_kind`: the type of an entity has to be that of the kind or
+/// one below it; any other value is. It never fails.
+pub fn is_of_kind(schema: &Schema, kind: Kind, value: &Value) -> bool
     ensures { result ≡ is_of_kind schema.now kind value.now }
 {
     match (kind, value) {

@@ -12,10 +12,10 @@ ghost use Rattle.st_keys.specs.Keys.{Fits, IsEntity};
 ghost use Rattle.st_rows.specs.Rows.{pair_width as row_width};
 ghost use Rattle.st_store.specs.Rows.{rows_from};
 ghost use Rattle.st_store.specs.Stores.{IsPlace, OfStore, Fits as CursorFits};
-ghost use Rattle.st_index.specs.Turned.{turned_row, found_place, AreOfPairs, entities_with};
+ghost use Rattle.st_index.specs.Turned.{IsLike, turned_row, found_place, AreOfPairs, entities_with};
 ghost use Rattle.st_index.specs.Change.{IsTurned};
 ghost use Rattle.st_index.specs.Found.{least_entity, front_with, IsPairOf, IsBadBehind, IsNext};
-ghost use Rattle.st_index.specs.Bad.{HasBadPair};
+ghost use Rattle.st_index.specs.Bad.{AreNamed, HasBadPair, IsNamed, IsNamedRow};
 
 use crate::pair::pair_in;
 use crate::turned::found_place;
@@ -55,10 +55,11 @@ fn has_serial(entity: EntityId) -> bool
     entity.serial != 0
 }
 
-/// Whether a value has a kind, and is not too long for it.
+/// Whether a value has a kind, and is not too long for it. What the program's types say of integers and texts holds in any case.
 pub fn fits(value: &Value, kind: Kind) -> bool
     ensures so { IsTrue result → Fits kind value.now }
     ensures all { Fits kind value.now → IsTrue result }
+    ensures like { IsLike kind value.now → IsTrue result }
 {
     match (kind, value) {
         (Kind::Int, Value::Int(number)) => is_integer(*number),
@@ -120,6 +121,7 @@ fn entity_with(
     ensures met { (old new : Met) → HandsOn old new result }
     ensures looks { IfErr result (λ fault. IsTrue (is_of_looking fault)) }
     ensures bad { IfErr result (OfDamage (λ page at. (page ≡ cursor.now.number) × IsBadBehind schema.now attribute.now cursor.now row.now at)) }
+    ensures sound { IfErr result (OfDamage (λ page at. IsNamedRow schema.now attribute.now row.now → ⊥)) }
 {
     laws_of_rows();
     match pair_in(alloc, schema, attribute, row) {
@@ -163,6 +165,10 @@ fn next_with<S: Store, P: Pages>(
     ensures fewer { IfOk result (λ next. IsSome next → S.left (S.location store.now) cursor.new < S.left (S.location store.now) cursor.old) }
     ensures bad { IfErr result (OfDamage (λ page at. ForEach (P.attempt pages.old) (P.attempt pages.new) (λ array. S.sits (S.location store.now) array cursor.old →
         S.bad (S.location store.now) array page at ⊎ HasBadPair schema.now attribute.now (S.location store.now) S.reach array page at))) }
+    ensures named { IfOk result (λ next. IsSome next → ForEach (P.attempt pages.old) (P.attempt pages.new) (λ array. (rest : List (List ℕ)) → S.ahead (S.location store.now) array cursor.old rest →
+        AreNamed schema.now attribute.now rest → (others : List (List ℕ)) × S.ahead (S.location store.now) array cursor.new others × AreNamed schema.now attribute.now others)) }
+    ensures sound { IfErr result (OfDamage (λ page at. ForEach (P.attempt pages.old) (P.attempt pages.new) (λ array. (rest : List (List ℕ)) → S.ahead (S.location store.now) array cursor.old rest →
+        AreNamed schema.now attribute.now rest → S.bad (S.location store.now) array page at))) }
 {
     laws_of_rows();
     let mut bytes = [0; MOST_BYTES];
@@ -196,6 +202,8 @@ fn gather<S: Store, P: Pages>(
         (pairs : List Pair) → AreOfPairs attribute.now.kind rest pairs → entities ≡ front_with value.now pairs)) }
     ensures bad { IfErr result (OfDamage (λ page at. ForEach (P.attempt pages.old) (P.attempt pages.new) (λ array. S.sits (S.location store.now) array cursor →
         S.bad (S.location store.now) array page at ⊎ HasBadPair schema.now attribute.now (S.location store.now) S.reach array page at))) }
+    ensures sound { IfErr result (OfDamage (λ page at. ForEach (P.attempt pages.old) (P.attempt pages.new) (λ array. (rest : List (List ℕ)) → S.ahead (S.location store.now) array cursor rest →
+        AreNamed schema.now attribute.now rest → S.bad (S.location store.now) array page at))) }
 {
     let mut found = Entities::new(alloc);
     loop {
@@ -231,6 +239,7 @@ fn look<S: Store, P: Pages>(
         (pairs : List Pair) → AreOfPairs attribute.now.kind rows pairs → entities ≡ entities_with value.now pairs))) }
     ensures bad { IfErr result (OfDamage (λ page at. ForEach (P.attempt pages.old) (P.attempt pages.new) (λ array.
         S.bad place array page at ⊎ HasBadPair schema.now attribute.now place S.reach array page at))) }
+    ensures sound { IfErr result (OfDamage (λ page at. ForEach (P.attempt pages.old) (P.attempt pages.new) (λ array. OfStore S.holds place array (λ _ rows. AreNamed schema.now attribute.now rows → ⊥)))) }
 {
     laws_of_rows();
     let store = S::at(place);
@@ -245,7 +254,8 @@ fn look<S: Store, P: Pages>(
 ///
 /// # Errors
 /// `BadPage` where a page of the store is bad, or a row on the way is none of the attribute's, or names an entity whose type
-/// isn't that of the attribute's owner, or of its values; otherwise what a call of `get` answered.
+/// isn't that of the attribute's owner, or of its values, and never where the store has the rows of pairs that name entities
+/// of the right types; otherwise what a call of `get` answered.
 pub fn lookup<S: Store, P: Pages>(
     alloc: Global,
     schema: &Schema,
@@ -268,6 +278,9 @@ pub fn lookup<S: Store, P: Pages>(
     ensures bad { IfErr result (OfDamage (λ page at. ForEach (P.attempt pages.old) (P.attempt pages.new) (λ array.
         IfSome (numbered schema.now attribute) (λ a. IfSome (found_place attribute places.now) (λ place.
         S.bad place array page at ⊎ HasBadPair schema.now a place S.reach array page at))))) }
+    ensures sound { IfErr result (OfDamage (λ page at. ForEach (P.attempt pages.old) (P.attempt pages.new) (λ array.
+        IfSome (numbered schema.now attribute) (λ a. IfSome (found_place attribute places.now) (λ place. OfStore S.holds place array (λ _ rows.
+        (pairs : List Pair) → AreOfPairs a.kind rows pairs → All (IsNamed schema.now a) pairs → ⊥)))))) }
 {
     let Some(described) = schema.attribute(attribute) else {
         return Ok(Entities::new(alloc));

@@ -4,6 +4,7 @@ use Rattle.st_pages.specs.Reading.{ForEach}
 use Rattle.st_state.specs.State.{Pair}
 use Rattle.st_store.specs.Stores.{Fits}
 use Rattle.st_index.specs.Turned.{AreOfPairs}
+use Rattle.st_index.specs.Bad.{AreNamed}
 use Rattle.st_index.specs.Found.{front_with}
 use Rattle.st_index.proofs.reading.gather.Given as goal
 
@@ -20,6 +21,8 @@ invariant-loop-entity g l =
       sits : ForEach (attempt l.fn.pages) (attempt l.pages) (λ array. g.S.Store.sits place array l.fn.cursor → g.S.Store.sits place array l.cursor);
       found : ForEach (attempt l.fn.pages) (attempt l.pages) (λ array. (rest : List (List ℕ)) → g.S.Store.ahead place array l.fn.cursor rest → (pairs : List Pair) → AreOfPairs l.attribute.kind rest pairs →
           (others : List (List ℕ)) × (more : List Pair) × g.S.Store.ahead place array l.cursor others × AreOfPairs l.attribute.kind others more × (front_with l.value pairs ≡ l.found ++ front_with l.value more));
+      named : ForEach (attempt l.fn.pages) (attempt l.pages) (λ array. (rest : List (List ℕ)) → g.S.Store.ahead place array l.fn.cursor rest → AreNamed l.schema l.attribute rest →
+          (others : List (List ℕ)) × g.S.Store.ahead place array l.cursor others × AreNamed l.schema l.attribute others);
     }
 
 abbrev pub decreases-loop-entity : goal.decreases-loop-entity

@@ -10,11 +10,12 @@ use Rattle.st_state.specs.State.{Pair}
 use Rattle.st_store.specs.Rows.{rows_from}
 use Rattle.st_store.specs.Stores.{OfStore}
 use Rattle.st_index.specs.Turned.{turned_row, AreOfPairs, entities_with}
-use Rattle.st_index.specs.Bad.{HasBadPair}
+use Rattle.st_index.specs.Bad.{AreNamed, HasBadPair}
 use Rattle.st_index.specs.Found.{front_with, least_entity}
 use Rattle.st_index.proofs.Called.{earlier}
 use Rattle.st_index.proofs.Changes.{damage-weaken}
 use Rattle.st_index.proofs.Looked.{RowLaws, err-weaken, from-are, ok-weaken, with-are}
+use Rattle.st_index.proofs.Named.{from-named}
 use Rattle.st_index.proofs.reading.look.Goals as goal
 
 pub returns-in-Ok-clause-asked : goal.returns-in-Ok-clause-asked
@@ -81,3 +82,44 @@ returns-in-Ok-clause-bad g c =
     let mid = earlier B C pages stays agrees in
     under A B C (λ x. g.S.Store.sits loc x c.in-Ok.cursor → g.S.Store.bad loc x page at ⊎ HasBadPair schema a loc g.S.Store.reach x page at) c.seek_value.ensures.written wrong pages agrees (c.in-Ok.ensures.sits pages mid)))
     c.gather.ensures.bad)
+
+pub returns-in-Ok-clause-sound : goal.returns-in-Ok-clause-sound
+returns-in-Ok-clause-sound g c =
+    let pages-laws = g.met.P.Pages in
+    let attempt = g.P.Pages.attempt in
+    let loc = g.S.Store.location c.at-store.result in
+    let schema = c.args.schema.now in
+    let a = c.args.attribute.now in
+    let value = c.args.value.now in
+    let A = attempt c.args.pages.now in
+    let B = attempt c.seek_value.new.pages in
+    let C = attempt c.gather.new.pages in
+    let stays : Stays B C = pages-laws.seen_stays c.seek_value.new.pages c.gather.new.pages c.gather.ensures.follows in
+    let laws : RowLaws = record { width = c.laws_of_rows.ensures.width; pair_width = c.laws_of_rows.ensures.pair_width; one_spelling = c.laws_of_rows.ensures.one_spelling; pairs = c.laws_of_rows.ensures.pairs } in
+    let key-is = ap (λ (p : Place). p.key) c.at-store.ensures ∙ c.requires.turned.key in
+    subst (λ (p : Place). IfErr c.gather.result (OfDamage (λ page at. ForEach A C (λ array. OfStore g.S.Store.holds p array (λ _ rows. AreNamed schema a rows → ⊥))))) c.at-store.ensures
+    (err-weaken (OfDamage (λ page at. ForEach B C (λ array. (rest : List (List ℕ)) → g.S.Store.ahead loc array c.in-Ok.cursor rest → AreNamed schema a rest → g.S.Store.bad loc array page at)))
+    (OfDamage (λ page at. ForEach A C (λ array. OfStore g.S.Store.holds loc array (λ _ rows. AreNamed schema a rows → ⊥)))) c.gather.result
+    (damage-weaken (λ page at. ForEach B C (λ array. (rest : List (List ℕ)) → g.S.Store.ahead loc array c.in-Ok.cursor rest → AreNamed schema a rest → g.S.Store.bad loc array page at))
+    (λ page at. ForEach A C (λ array. OfStore g.S.Store.holds loc array (λ _ rows. AreNamed schema a rows → ⊥)))
+    (λ page at wrong pages agrees had rows holds named.
+    let mid = earlier B C pages stays agrees in
+    let ahead = c.in-Ok.ensures.ahead pages mid had rows holds in
+    g.met.S.Store.never_bad loc (over A pages) had rows page at
+    (under A B C (λ x. (rest : List (List ℕ)) → g.S.Store.ahead loc x c.in-Ok.cursor rest → AreNamed schema a rest → g.S.Store.bad loc x page at) c.seek_value.ensures.written wrong pages agrees
+    (rows_from loc.key (turned_row a.kind value least_entity) rows) ahead (from-named schema a laws value loc.key rows key-is c.requires.value named)) holds))
+    c.gather.ensures.sound)
+
+pub returns-clause-sound : goal.returns-clause-sound
+returns-clause-sound g c =
+    let attempt = g.P.Pages.attempt in
+    let loc = g.S.Store.location c.at-store.result in
+    let schema = c.args.schema.now in
+    let a = c.args.attribute.now in
+    let A = attempt c.args.pages.now in
+    let B = attempt c.seek_value.new.pages in
+    subst (λ (p : Place). OfDamage (λ page at. ForEach A B (λ array. OfStore g.S.Store.holds p array (λ _ rows. AreNamed schema a rows → ⊥))) c.in-Err.fault) c.at-store.ensures
+    (damage-weaken (λ page at. ForEach A B (λ array. g.S.Store.bad loc array page at))
+    (λ page at. ForEach A B (λ array. OfStore g.S.Store.holds loc array (λ _ rows. AreNamed schema a rows → ⊥)))
+    (λ page at wrong pages agrees had rows holds named. g.met.S.Store.never_bad loc (over A pages) had rows page at (wrong pages agrees) holds)
+    c.in-Err.fault c.in-Err.ensures.bad)

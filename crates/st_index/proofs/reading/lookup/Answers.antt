@@ -1,12 +1,15 @@
 use Rattle.std.proofs.Common.{◌≡◌, List, sym, ◌∙◌, true≢false}
 use Rattle.std.specs.Prelude.{IfSome}
+use Rattle.std.specs.List.{All}
 use Rattle.st_lattice.specs.Outline.{attribute as numbered}
 use Rattle.st_pages.specs.Attempt.{over}
-use Rattle.st_pages.specs.Reading.{ForEach}
+use Rattle.st_pages.specs.Reading.{ForEach, OfDamage}
 use Rattle.st_state.specs.State.{Pair}
 use Rattle.st_store.specs.Stores.{OfStore}
 use Rattle.st_index.specs.Turned.{found_place, AreOfPairs, entities_with}
-use Rattle.st_index.proofs.Looked.{any-some, none-found, ok-weaken, some-of}
+use Rattle.st_index.specs.Bad.{AreNamed, IsNamed}
+use Rattle.st_index.proofs.Changes.{damage-weaken}
+use Rattle.st_index.proofs.Looked.{any-some, err-weaken, none-found, ok-weaken, some-of}
 use Rattle.st_index.proofs.Placed.{found-turned}
 use Rattle.st_index.proofs.reading.lookup.Goals as goal
 
@@ -38,3 +41,24 @@ returns-clause-found g c =
     (some-of (λ place. OfStore g.S.Store.holds place array (λ _ rows. (pairs : List Pair) → AreOfPairs kind rows pairs → entities ≡ entities_with c.args.value.now pairs)) (found_place c.args.attribute c.args.places.now)
     c.in-Some-found_place.place c.in-Some-found_place.ensures (got pages agrees)))
     c.look.ensures.found
+
+pub returns-clause-sound : goal.returns-clause-sound
+returns-clause-sound g c =
+    let A = g.P.Pages.attempt c.args.pages.now in
+    let C = g.P.Pages.attempt c.look.new.pages in
+    let schema = c.args.schema.now in
+    let x = c.in-Some.described.now in
+    err-weaken (OfDamage (λ page at. ForEach A C (λ array. OfStore g.S.Store.holds c.in-Some-found_place.place array (λ _ rows. AreNamed schema x rows → ⊥))))
+    (OfDamage (λ page at. ForEach A C (λ array. IfSome (numbered schema c.args.attribute) (λ a. IfSome (found_place c.args.attribute c.args.places.now) (λ place. OfStore g.S.Store.holds place array (λ _ rows.
+    (pairs : List Pair) → AreOfPairs a.kind rows pairs → All (IsNamed schema a) pairs → ⊥)))))) c.look.result
+    (damage-weaken (λ page at. ForEach A C (λ array. OfStore g.S.Store.holds c.in-Some-found_place.place array (λ _ rows. AreNamed schema x rows → ⊥)))
+    (λ page at. ForEach A C (λ array. IfSome (numbered schema c.args.attribute) (λ a. IfSome (found_place c.args.attribute c.args.places.now) (λ place. OfStore g.S.Store.holds place array (λ _ rows.
+    (pairs : List Pair) → AreOfPairs a.kind rows pairs → All (IsNamed schema a) pairs → ⊥)))))
+    (λ page at none pages agrees.
+    let array = over A pages in
+    some-of (λ a. IfSome (found_place c.args.attribute c.args.places.now) (λ place. OfStore g.S.Store.holds place array (λ _ rows. (pairs : List Pair) → AreOfPairs a.kind rows pairs → All (IsNamed schema a) pairs → ⊥)))
+    (numbered schema c.args.attribute) x c.in-Some.ensures
+    (some-of (λ place. OfStore g.S.Store.holds place array (λ _ rows. (pairs : List Pair) → AreOfPairs x.kind rows pairs → All (IsNamed schema x) pairs → ⊥)) (found_place c.args.attribute c.args.places.now)
+    c.in-Some-found_place.place c.in-Some-found_place.ensures
+    (λ had rows holds pairs are named. none pages agrees had rows holds (record { pairs = pairs; are = are; named = named })))))
+    c.look.ensures.sound

@@ -1,15 +1,16 @@
 use Rattle.std.proofs.Common.{◌≡◌, ℕ, ◌+◌, ◌*◌, ◌≤◌, List, IsTrue, sym, ap, ◌∙◌, subst, inr}
-use Rattle.std.specs.Prelude.{slice_get, ◌⊎◌}
+use Rattle.std.specs.Prelude.{slice_get, ◌⊎◌, IsSome}
 use Rattle.st_image.specs.Fields.{rows_of}
 use Rattle.st_pages.specs.Attempt.{over}
 use Rattle.st_pages.specs.Reading.{ForEach, OfDamage}
 use Rattle.st_state.specs.State.{Pair}
 use Rattle.st_store.specs.Stores.{Advanced}
 use Rattle.st_index.specs.Turned.{AreOfPairs}
-use Rattle.st_index.specs.Bad.{HasBadPair}
+use Rattle.st_index.specs.Bad.{AreNamed, HasBadPair, IsNamedRow}
 use Rattle.st_index.specs.Found.{IsBadBehind, IsNext, IsPairOf}
 use Rattle.st_index.proofs.Changes.{damage-weaken}
 use Rattle.st_index.proofs.Looked.{RowLaws, err-weaken, next-of, none-next, ok-weaken, within-page}
+use Rattle.st_index.proofs.Named.{any-ok, first-named, others-named}
 use Rattle.st_index.proofs.reading.next_with.Goals as goal
 
 pub entity_with-requires-clause-passed : goal.entity_with-requires-clause-passed
@@ -70,3 +71,45 @@ returns-in-Ok-false-clause-next g c = λ pages agrees rest ahead pairs are.
     let array = over (g.P.Pages.attempt c.args.pages.now) pages in
     none-next c.args.attribute.now.kind c.args.value.now rest pairs
     (subst (λ b. Advanced (g.S.Store.ahead place array c.advance.new.cursor) rest b c.advance.new.row) c.in-Ok-false.field-0-test (c.in-Ok-false.ensures.next pages agrees rest ahead)) are
+
+pub returns-in-Ok-true-clause-named : goal.returns-in-Ok-true-clause-named
+returns-in-Ok-true-clause-named g c =
+    let attempt = g.P.Pages.attempt in
+    let place = g.S.Store.location c.args.store.now in
+    let a = c.args.attribute.now in
+    let schema = c.args.schema.now in
+    any-ok (λ next. IsSome next → ForEach (attempt c.args.pages.now) (attempt c.advance.new.pages) (λ array. (rest : List (List ℕ)) → g.S.Store.ahead place array c.args.cursor.now rest → AreNamed schema a rest →
+    (others : List (List ℕ)) × g.S.Store.ahead place array c.advance.new.cursor others × AreNamed schema a others))
+    c.entity_with.result
+    (λ next some pages agrees rest ahead named.
+    let array = over (attempt c.args.pages.now) pages in
+    let on = subst (λ b. Advanced (g.S.Store.ahead place array c.advance.new.cursor) rest b c.advance.new.row) c.in-Ok-true.field-0-test (c.in-Ok-true.ensures.next pages agrees rest ahead) in
+    (on.0, on.2, others-named schema a c.advance.new.row on.0 rest on.1 named))
+
+pub returns-in-Ok-true-clause-sound : goal.returns-in-Ok-true-clause-sound
+returns-in-Ok-true-clause-sound g c =
+    let attempt = g.P.Pages.attempt in
+    let place = g.S.Store.location c.args.store.now in
+    let a = c.args.attribute.now in
+    let schema = c.args.schema.now in
+    err-weaken (OfDamage (λ page at. IsNamedRow schema a c.advance.new.row → ⊥))
+    (OfDamage (λ page at. ForEach (attempt c.args.pages.now) (attempt c.advance.new.pages) (λ array. (rest : List (List ℕ)) → g.S.Store.ahead place array c.args.cursor.now rest → AreNamed schema a rest → g.S.Store.bad place array page at)))
+    c.entity_with.result
+    (damage-weaken (λ page at. IsNamedRow schema a c.advance.new.row → ⊥)
+    (λ page at. ForEach (attempt c.args.pages.now) (attempt c.advance.new.pages) (λ array. (rest : List (List ℕ)) → g.S.Store.ahead place array c.args.cursor.now rest → AreNamed schema a rest → g.S.Store.bad place array page at))
+    (λ page at none pages agrees rest ahead named.
+    let array = over (attempt c.args.pages.now) pages in
+    let on = subst (λ b. Advanced (g.S.Store.ahead place array c.advance.new.cursor) rest b c.advance.new.row) c.in-Ok-true.field-0-test (c.in-Ok-true.ensures.next pages agrees rest ahead) in
+    absurd (none (first-named schema a c.advance.new.row on.0 rest on.1 named))))
+    c.entity_with.ensures.sound
+
+pub returns-in-Err-clause-sound : goal.returns-in-Err-clause-sound
+returns-in-Err-clause-sound g c =
+    let attempt = g.P.Pages.attempt in
+    let place = g.S.Store.location c.args.store.now in
+    let a = c.args.attribute.now in
+    let schema = c.args.schema.now in
+    damage-weaken (λ page at. ForEach (attempt c.args.pages.now) (attempt c.advance.new.pages) (λ array. g.S.Store.sits place array c.args.cursor.now → g.S.Store.bad place array page at))
+    (λ page at. ForEach (attempt c.args.pages.now) (attempt c.advance.new.pages) (λ array. (rest : List (List ℕ)) → g.S.Store.ahead place array c.args.cursor.now rest → AreNamed schema a rest → g.S.Store.bad place array page at))
+    (λ page at wrong pages agrees rest ahead named. wrong pages agrees (g.met.S.Store.ahead_sits place (over (attempt c.args.pages.now) pages) c.args.cursor.now rest ahead))
+    c.in-Err.fault c.in-Err.ensures.bad
