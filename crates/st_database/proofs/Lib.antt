@@ -7,3 +7,4 @@ pub mod Touching
 pub mod Calling
 pub mod Serials
 pub mod Pairs
+pub mod Looking

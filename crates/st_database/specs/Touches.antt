@@ -1,7 +1,9 @@
 -- What calls in a row ask of the pages of a database, and what they give.
-use Rattle.std.specs.Prelude.{◌≡◌, ℕ, ◌≤◌, ◌⊎◌, ◌||◌, ◌&&◌, Bool, false, if◌then◌else◌, List, map, Option, Some, None, Result, IsTrue, IfOk, IfErr, is_some}
+use Rattle.std.specs.Prelude.{◌≡◌, ℕ, ◌+◌, ◌*◌, ◌≤◌, ◌⊎◌, ◌||◌, ◌&&◌, Bool, false, if◌then◌else◌, List, map, length, Option, Some, None, Result, IsTrue, IfOk, IfErr, is_some}
 use Rattle.std.specs.List.{list_any}
 use Rattle.std.specs.Str.{bytes_eq}
+use Rattle.st_values.specs.declared.value.Value.{Value}
+use Rattle.st_values.specs.Order.{same_value}
 use Rattle.st_page.specs.declared.fault.PageFault.{PageFault}
 use Rattle.st_lattice.specs.Outline.{Outline}
 use Rattle.st_pages.specs.declared.places.Place.{Place}
@@ -10,7 +12,8 @@ use Rattle.st_pages.specs.Places.{place_of}
 use Rattle.st_pages.specs.Reading.{OfDamage}
 use Rattle.st_store.specs.Rows.{row_with}
 use Rattle.st_store.specs.Stores.{is_page_of}
-use Rattle.st_index.specs.Noted.{differences}
+use Rattle.st_index.specs.Turned.{turned_places}
+use Rattle.st_index.specs.Noted.{differences, rows_for}
 use Rattle.st_database.specs.Database.{View, IsDatabase}
 
 -- the stores of places
@@ -38,6 +41,13 @@ changed_by key row rows = if is_row row (row_with key row rows) then 0 else 1
 
 abbrev pub removed_by : ℕ → List ℕ → List (List ℕ) → ℕ
 removed_by key row rows = if is_some (row_with key row rows) then 1 else 0
+
+-- how many rows a change of a value adds to an attribute's index and inverse, and how many it adds or takes out
+abbrev pub pairs_added : ℕ → List Place → Value → Value → ℕ
+pairs_added number places old new = if same_value old new then 0 else length (turned_places number places) * rows_for new
+
+abbrev pub pairs_changed : ℕ → List Place → Value → Value → ℕ
+pairs_changed number places old new = if same_value old new then 0 else length (turned_places number places) * (rows_for old + rows_for new)
 
 module _ (asked : (ℕ → Bool) → (ℕ → Bool) → ℕ → Type 0) (a b : Attempt) (array : Array) where
   -- What calls asked of an array that agrees with what was seen: only pages of these stores, and drawn ones, were got, and put if

@@ -1,7 +1,7 @@
 //! The last serial of an extent of a database.
 ghost use Rattle.std.specs.Prelude.{◌≡◌, ◌<◌, [], ◌∷◌, ⊤, true, false, length, IsTrue, IfErr};
 ghost use Rattle.st_pages.specs.Attempt.{may_put};
-ghost use Rattle.st_pages.specs.Calls.{HandsOn, is_of_looking};
+ghost use Rattle.st_pages.specs.Calls.{HandsOn, is_of_looking, no_page, only};
 ghost use Rattle.st_store.specs.Rows.{with_row};
 ghost use Rattle.st_store.specs.Stores.{HasPutStores, IsPlace, any_page};
 ghost use Rattle.st_database.specs.Database.{with_last, with_rows};
@@ -29,6 +29,7 @@ pub fn serial_of<S: Store, P: Pages>(
     ensures written { (P.attempt pages.new).written ≡ (P.attempt pages.old).written }
     ensures met { HandsOn (P.met pages.old) (P.met pages.new) result }
     ensures looks { IfErr result (λ fault. IsTrue (is_of_looking fault)) }
+    ensures asked { P.asked pages.old pages.new (only place.first) no_page 0 }
     ensures leads { WithStore S.holds (P.attempt pages.old) (P.attempt pages.new) place (λ array schema places view.
         Leads S.holds (P.asked pages.old pages.new) (P.attempt pages.old) (P.attempt pages.new) array schema places
         view (λ serial. serial ≡ view.last place.store) (place.store ∷ []) false 0 0 result) }
