@@ -8,3 +8,7 @@ pub mod Celled
 pub mod Sound
 pub mod Memory
 pub mod Valued
+pub mod Membered
+pub mod Indexed
+pub mod Single
+pub mod Holding

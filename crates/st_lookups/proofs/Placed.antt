@@ -52,7 +52,7 @@ is-number : (m n : ℕ) → (m == n) ≡ true → m ≡ n
 is-number m n h = grind (arith, nat_tests)
 
 -- where no place is found, none has the store
-none-has : (s : ℕ) (places : List Place) → place_of s places ≡ None → All (λ t. t ≡ s → ⊥) (map (λ p. p.store) places)
+pub none-has : (s : ℕ) (places : List Place) → place_of s places ≡ None → All (λ t. t ≡ s → ⊥) (map (λ p. p.store) places)
 none-has s [] e = All-nil (λ t. t ≡ s → ⊥)
 none-has s (p ∷ ps) e =
     either (p.store == s) (λ b. cond b (Some p) (place_of s ps) ≡ None → All (λ t. t ≡ s → ⊥) (map (λ q. q.store) (p ∷ ps)))

@@ -40,7 +40,7 @@ null-named schema (kind.Text limit) = refl
 null-named schema (kind.Entity ty) = refl
 
 -- a value that an attribute can hold is of its type
-held-named : (s : State) (k : Kind) (v : Value) → can_hold s k v ≡ true → is_of_kind s.schema k v ≡ true
+pub held-named : (s : State) (k : Kind) (v : Value) → can_hold s k v ≡ true → is_of_kind s.schema k v ≡ true
 held-named s kind.Int v h = refl
 held-named s kind.Bool v h = refl
 held-named s (kind.Text limit) v h = refl

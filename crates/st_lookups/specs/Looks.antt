@@ -1,27 +1,31 @@
 -- What is looked up in pages that stand for a state.
-use Rattle.std.specs.Prelude.{◌≡◌, ℕ, ◌&&◌, not, Bool, true, false, if◌then◌else◌, List, [], ◌∷◌, Option, Some, None, Result, IsTrue, IfOk, IfErr, ◌<◌, length, take, filter, pos, slice_index_or}
-use Rattle.std.specs.Int.{w32, from_be_bytes, to_be_bytes}
+use Rattle.std.specs.Prelude.{◌≡◌, ℕ, ◌&&◌, not, Bool, true, false, if◌then◌else◌, List, [], ◌∷◌, Option, Some, None, Result, IsTrue, IfOk, IfErr, ◌<◌, length, take, drop, map, filter, pos, slice_index_or}
+use Rattle.std.specs.Int.{w16, w32, from_be_bytes, to_be_bytes}
+use Rattle.std.specs.List.{All}
 use Rattle.st_page.specs.declared.fault.PageFault.{PageFault}
 use Rattle.st_values.specs.declared.value.EntityId.{EntityId}
+use Rattle.st_values.specs.declared.value.Kind.{Kind}
 use Rattle.st_values.specs.declared.value.Value.{Value}
 use Rattle.st_values.specs.declared.value.Value.TheVariants.{Int, Null}
+use Rattle.st_values.specs.Order.{same_entity, same_value}
 use Rattle.st_lattice.specs.declared.attribute.Attribute.{Attribute}
 use Rattle.st_lattice.specs.declared.stores.StoreKind.TheVariants.{Extent}
 use Rattle.st_lattice.specs.Outline.{Outline}
 use Rattle.st_lattice.specs.Lattice.{attributes_in}
 use Rattle.st_lattice.specs.Stores.{store, row_width}
 use Rattle.st_rows.specs.Rows.{AreHeld, row, row_fields}
-use Rattle.st_index.specs.Bad.{is_of_kind}
+use Rattle.st_keys.specs.Keys.{Fits, IsEntity}
+use Rattle.st_index.specs.Bad.{IsNamed, is_of_kind}
 use Rattle.st_pages.specs.declared.places.Place.{Place}
 use Rattle.st_pages.specs.Attempt.{Array, Attempt, Agrees, over}
 use Rattle.st_pages.specs.Calls.{Met, HandsOn, is_of_looking}
 use Rattle.st_pages.specs.Reading.{OfDamage}
-use Rattle.st_state.specs.State.{State, is_live}
+use Rattle.st_state.specs.State.{Pair, State, is_live}
 use Rattle.st_state.specs.Rows.{entity_row}
 use Rattle.st_store.specs.Rows.{row_with}
 use Rattle.st_store.specs.Stores.{IsPlace}
 use Rattle.st_database.specs.Touches.{Touches}
-use Rattle.st_standing.specs.Standing.{NearlyStandsAt}
+use Rattle.st_standing.specs.Standing.{NearlyStandsAt, pair_bytes}
 
 -- What calls that only look keep, whatever they answer: what lies below, and all that was written; and which faults they hand on.
 pub record Peeks {A : Type 0} (follows : Type 0) (a b : Attempt) (old new : Met) (result : Result A PageFault) : Type 0 where
@@ -95,3 +99,43 @@ AreCellsIn schema ty serial rows (Some cells) =
 abbrev pub value_among : Option ℕ → List Value → Value
 value_among None values = Null
 value_among (Some index) values = slice_index_or values index Null
+
+-- ---- the rows of sets
+
+-- a row of a set is that of an entity and a value which are of an attribute's types
+pub record IsMember (schema : Outline) (a : Attribute) (bytes : List ℕ) : Type 0 where
+  pub pair : Pair
+  pub fits : Fits a.kind pair.value
+  pub is_entity : IsEntity pair.entity
+  pub is : pair_bytes a.kind pair.value pair.entity ≡ bytes
+  pub named : IsNamed schema a pair
+
+-- rows of a set are those of pairs, each of a value that fits a kind and an entity
+pub record AreMembers (kind : Kind) (rows : List (List ℕ)) (pairs : List Pair) : Type 0 where
+  pub rows_are : rows ≡ map (λ pair. pair_bytes kind pair.value pair.entity) pairs
+  pub fit : All (λ pair. Fits kind pair.value) pairs
+  pub entities : All (λ pair. IsEntity pair.entity) pairs
+
+-- the entity in a row of a set
+abbrev pub first_entity : List ℕ → EntityId
+first_entity row = record { ty = from_be_bytes w16 (take 2 row); serial = from_be_bytes w32 (take 4 (drop 2 row)) }
+
+-- the values of an entity among pairs
+abbrev pub values_with : EntityId → List Pair → List Value
+values_with entity pairs = map (λ pair. pair.value) (filter (λ pair. same_entity pair.entity entity) pairs)
+
+-- ---- the rows of extents, as they are read
+
+-- a serial and the cells of a row
+pub record Cells : Type 0 where
+  pub serial : ℕ
+  pub cells : List Value
+
+-- rows of a type are those of serials and cells that its fields hold
+pub record AreCells (schema : Outline) (ty : ℕ) (rows : List (List ℕ)) (read : List Cells) : Type 0 where
+  pub rows_are : rows ≡ map (λ r. row (row_fields schema ty) (Int (pos r.serial) ∷ r.cells)) read
+  pub held : All (λ r. AreHeld (row_fields schema ty) (Int (pos r.serial) ∷ r.cells)) read
+
+-- the entities of a type among what was read in whose cells a value stands at an index
+abbrev pub entities_having : ℕ → Option ℕ → Value → List Cells → List EntityId
+entities_having ty index value read = map (λ r. record { ty = ty; serial = r.serial }) (filter (λ r. same_value (value_among index r.cells) value) read)

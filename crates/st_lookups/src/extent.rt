@@ -9,7 +9,7 @@ ghost use Rattle.st_pages.specs.Attempt.{over};
 ghost use Rattle.st_pages.specs.Places.{place_of};
 ghost use Rattle.st_page.specs.declared.fault.PageFault.TheVariants as page_fault;
 ghost use Rattle.st_rows.specs.declared.fault.RowFault.TheVariants as row_fault;
-ghost use Rattle.st_rows.specs.Rows.{AreHeld, row, row_fields};
+ghost use Rattle.st_rows.specs.Rows.{AreHeld, cell_fields, row, row_fields};
 ghost use Rattle.st_index.specs.Bad.{is_of_kind};
 ghost use Rattle.st_state.specs.State.{is_live, entities_of, value_at};
 ghost use Rattle.st_state.specs.Calls.{HasSingle};
@@ -20,6 +20,7 @@ ghost use Rattle.st_lookups.specs.Looks.{Peeks, Finds, OfState, AreCellsIn, IsEx
 
 use crate::walk::{MOST_BYTES, Visit, walk};
 use st_database::{find_row, laws_of_places};
+use st_index::is_of_kind;
 use st_keys::laws_of_keys;
 use st_lattice::{Attribute, Schema, StoreKind, store};
 use st_page::PageFault;
@@ -31,14 +32,14 @@ use st_values::{Entities, EntityId, Kind, Value, Values};
 use std::alloc::Global;
 
 /// The place of a type's extent.
-pub fn extent_place(places: &Places, ty: u16) -> Option<Place>
+fn extent_place(places: &Places, ty: u16) -> Option<Place>
     ensures { result ≡ place_of (store StoreKind.Extent ty) places.now }
 {
     places.find(store(StoreKind::Extent, ty))
 }
 
-/// The same, of a type of the schema that the places are of.
-fn extent_of(schema: &Schema, places: &Places, ty: u16) -> Option<Place>
+/// The place of the extent of a type, by the places of the schema's stores; none where the type is not there.
+pub fn extent_of(schema: &Schema, places: &Places, ty: u16) -> Option<Place>
     requires of { AreOf schema.now places.now }
     requires fair { All IsPlace places.now }
     ensures value { result ≡ place_of (store StoreKind.Extent ty) places.now }
@@ -250,16 +251,6 @@ pub fn cell_index(schema: &Schema, ty: u16, number: u16) -> Option<usize>
     None
 }
 
-/// Whether the type of a value that is an entity is of a kind's; any other value is.
-pub(crate) fn is_of_kind(schema: &Schema, kind: Kind, value: &Value) -> bool
-    ensures { result ≡ is_of_kind schema.now kind value.now }
-{
-    match (kind, value) {
-        (Kind::Entity(ty), Value::Entity(entity)) => schema.isa(entity.ty, ty),
-        _ => true,
-    }
-}
-
 /// The place in a row of a type of the first entity whose type isn't of its attribute's.
 fn misnamed(schema: &Schema, ty: u16, cells: &[Value]) -> Option<u16>
     ensures { are_named schema.now (filter is_cell (attributes_in schema.now ty)) cells.now ≡ true → result ≡ None }
@@ -362,6 +353,7 @@ fn row_cells<S: Store, P: Pages>(
 ) -> Result<Option<Values>, PageFault>
     requires { IsExtent schema.now entity.ty place }
     ensures keeps { Peeks (P.follows pages.old pages.new) (P.attempt pages.old) (P.attempt pages.new) (P.met pages.old) (P.met pages.new) result }
+    ensures held { IfOk result (λ found. IfSome found (AreHeld (cell_fields schema.now entity.ty))) }
     ensures finds { WithStore S.holds (P.attempt pages.old) (P.attempt pages.new) place (λ array outline places view. All (IsSoundRow schema.now entity.ty) (view.rows place.store) →
         Finds (P.asked pages.old pages.new) (P.attempt pages.old) (P.attempt pages.new) array
         (λ cells. AreCellsIn schema.now entity.ty entity.serial (view.rows place.store) cells) (place.store ∷ []) result) }
@@ -400,6 +392,7 @@ pub fn cells_at<S: Store, P: Pages>(
     requires of { AreOf schema.now places.now }
     requires fair { All IsPlace places.now }
     ensures keeps { Peeks (P.follows pages.old pages.new) (P.attempt pages.old) (P.attempt pages.new) (P.met pages.old) (P.met pages.new) result }
+    ensures held { IfOk result (λ found. IfSome found (AreHeld (cell_fields schema.now entity.ty))) }
     ensures finds { OfState S.holds (P.attempt pages.old) (P.attempt pages.new) schema.now places.now (λ array s. Finds (P.asked pages.old pages.new) (P.attempt pages.old) (P.attempt pages.new) array
         (λ cells. cells ≡ cells_of s entity) (store StoreKind.Extent entity.ty ∷ []) result) }
     ensures seen { OnOk result (OfState S.holds (P.attempt pages.old) (P.attempt pages.new) schema.now places.now (λ array s. (place : Place) → place_of (store StoreKind.Extent entity.ty) places.now ≡ Some place →
