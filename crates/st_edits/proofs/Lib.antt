@@ -1,0 +1,4 @@
+pub mod Telling
+pub mod Blank
+pub mod Numbers
+pub mod Making
