@@ -1,8 +1,8 @@
 -- The texts of a schema that was read have at most 200 bytes, so that its keys have at most 201.
-use Rattle.std.proofs.Common.{◌≡◌, ℕ, ◌+◌, ◌≤◌, lit≤, Bool, true, false, ◌&&◌, leb, cond, List, [], ◌∷◌, Option, Some, None, Ok, refl, subst, arith}
+use Rattle.std.proofs.Common.{◌≡◌, ℕ, ◌+◌, ◌≤◌, lit≤, Bool, true, false, ◌&&◌, ◌||◌, leb, cond, List, [], ◌∷◌, Option, Some, None, Ok, refl, sym, ap, ◌∙◌, subst, arith, true≢false}
 use Rattle.std.specs.Prelude.{codes, length, map, ℤ, pos, negsuc}
 use Rattle.std.specs.List.{All}
-use Rattle.std.specs.Option.{option_and_then, ok_or}
+use Rattle.std.specs.Option.{option_and_then, option_or, ok_or}
 use Rattle.std.specs.Str.{bytes_eq}
 use Rattle.std.proofs.lemmas.Bool.{and_parts, leb-true}
 use Rattle.std.proofs.lemmas.List.Elements.{All-append, All-cons, All-head, All-nil, All-tail}
@@ -22,7 +22,10 @@ use Rattle.st_schema.specs.declared.written.AttributeForm.{AttributeForm}
 use Rattle.st_schema.specs.declared.written.TypeForm.{TypeForm}
 use Rattle.st_schema.specs.declared.written.Written.{Written}
 use Rattle.st_schema.specs.Written.{size_of, size_at, sized_string, type_word, worded_at, single_type, set_type, type_at, value_type, choices_after, last_attributes, attribute_parts, attribute_form, attribute_forms, names_at, type_parts, type_form, type_forms, schema_name, schema_front, written}
-use Rattle.st_schema.specs.Checks.{unless, written_fault}
+use Rattle.st_schema.specs.Checks.{unless, written_fault, goes_with, choice_fault, choices_in, bad_option, too_many, repeated_type, parents_fault, unknown_type}
+use Rattle.st_schema.specs.declared.written.Setting.{Setting}
+use Rattle.st_schema.specs.declared.written.Setting.TheVariants as setting
+use Rattle.st_schema.specs.declared.written.Choice.{Choice}
 use Rattle.st_schema.specs.Resolved.{kind_of, is_on, is_unique, is_index, attribute_of_form, attributes_from, all_attributes, resolved}
 use Rattle.st_values.proofs.Tests.{first-of}
 use Rattle.st_schema.specs.Meaning.{schema_of, schema_fault}
@@ -221,3 +224,63 @@ plain-attributes forms schema is =
     let last : two.value ≡ schema = unless-is (schema_fault two.value) two.value schema two.then in
     let first : resolved one.value ≡ two.value = unless-is (written_fault one.value.types) (resolved one.value) two.value two.was in
     subst (λ (s : Outline). All IsPlainOne s.attributes) last (subst (λ (s : Outline). All IsPlainOne s.attributes) first (all-plain (map (λ t. t.name) one.value.types) 0 0 one.value.types))
+
+-- ---- no set is unique
+
+abbrev pub IsLoneSet : Attribute → Type 0
+IsLoneSet a = a.many ≡ true → a.unique ≡ false
+
+-- no option that goes with a set makes it unique
+not-unique : (w : Worded) (s : Setting) → goes_with w true s ≡ true → is_unique s ≡ false
+not-unique w (setting.Inverse name) g = refl
+not-unique w (setting.Unique true) g = absurd (true≢false (sym g))
+not-unique w (setting.Unique false) g = refl
+not-unique w (setting.NoNulls on) g = refl
+not-unique w (setting.Index on) g = refl
+
+none-both : {A : Type 0} (a b : Option A) → option_or a b ≡ None → (a ≡ None) × (b ≡ None)
+none-both None b none = (refl, none)
+none-both (Some x) b none = absurd (cc)
+
+goes-first : (goes : Bool) (w : Worded) (many : Bool) (place : ℕ) (choices : List Choice) → cond goes (choice_fault w many choices) (Some (fault.BadOption place)) ≡ None → (goes ≡ true) × (choice_fault w many choices ≡ None)
+goes-first true w many place choices is = (refl, is)
+goes-first false w many place choices is = absurd (cc)
+
+choices-alone : (w : Worded) (choices : List Choice) → choice_fault w true choices ≡ None → is_on is_unique choices ≡ false
+choices-alone w [] e = refl
+choices-alone w (c ∷ choices) e =
+    let goes = goes-first (goes_with w true c.setting) w true c.place choices e in
+    ap (λ b. b || is_on is_unique choices) (not-unique w c.setting goes.0) ∙ choices-alone w choices goes.1
+
+form-alone : (names : List (List ℕ)) (number owner : ℕ) (a : AttributeForm) → choice_fault a.worded a.many a.choices ≡ None → IsLoneSet (attribute_of_form names number owner a)
+form-alone names number owner a e = λ many. choices-alone a.worded a.choices (subst (λ b. choice_fault a.worded b a.choices ≡ None) many e)
+
+from-alone : (names : List (List ℕ)) (number owner : ℕ) (attributes : List AttributeForm) → choices_in attributes ≡ None → All IsLoneSet (attributes_from names number owner attributes)
+from-alone names number owner [] e = All-nil IsLoneSet
+from-alone names number owner (a ∷ attributes) e =
+    let parts = none-both (choice_fault a.worded a.many a.choices) (choices_in attributes) e in
+    All-cons IsLoneSet (attribute_of_form names number owner a) (attributes_from names (number + 1) owner attributes) (form-alone names number owner a parts.0) (from-alone names (number + 1) owner attributes parts.1)
+
+all-alone : (names : List (List ℕ)) (number owner : ℕ) (types : List TypeForm) → bad_option types ≡ None → All IsLoneSet (all_attributes names number owner types)
+all-alone names number owner [] e = All-nil IsLoneSet
+all-alone names number owner (t ∷ types) e =
+    let parts = none-both (choices_in t.attributes) (bad_option types) e in
+    All-append IsLoneSet (attributes_from names number owner t.attributes) (all_attributes names (number + length t.attributes) (owner + 1) types)
+    (from-alone names number owner t.attributes parts.0) (all-alone names (number + length t.attributes) (owner + 1) types parts.1)
+
+no-fault : (found : Option SchemaFault) (s schema : Outline) → unless found s ≡ Ok schema → found ≡ None
+no-fault None s schema e = refl
+no-fault (Some f) s schema e = absurd (cc)
+
+pub lone-sets : (forms : List Form) (schema : Outline) → schema_of forms ≡ Ok schema → All IsLoneSet schema.attributes
+lone-sets forms schema is =
+    let one = step (written forms) (λ w. and_then (unless (written_fault w.types) (resolved w)) (λ s. unless (schema_fault s) s)) schema is in
+    let two = step (unless (written_fault one.value.types) (resolved one.value)) (λ s. unless (schema_fault s) s) schema one.then in
+    let last : two.value ≡ schema = unless-is (schema_fault two.value) two.value schema two.then in
+    let first : resolved one.value ≡ two.value = unless-is (written_fault one.value.types) (resolved one.value) two.value two.was in
+    let none = no-fault (written_fault one.value.types) (resolved one.value) two.value two.was in
+    let many = none-both (too_many one.value.types) _ none in
+    let repeated = none-both (repeated_type one.value.types) _ many.1 in
+    let parents = none-both (parents_fault [] one.value.types) _ repeated.1 in
+    let unknown = none-both (unknown_type (map (λ t. t.name) one.value.types) one.value.types) (bad_option one.value.types) parents.1 in
+    subst (λ (s : Outline). All IsLoneSet s.attributes) last (subst (λ (s : Outline). All IsLoneSet s.attributes) first (all-alone (map (λ t. t.name) one.value.types) 0 0 one.value.types unknown.1))

@@ -1,4 +1,4 @@
-use Rattle.st_database.proofs.Brief.{short-keys, plain-attributes}
+use Rattle.st_database.proofs.Brief.{lone-sets, plain-attributes, short-keys}
 use Rattle.st_database.proofs.Fair.{fair-places}
 use Rattle.st_database.proofs.laws.laws_of_places.Goals as goal
 
@@ -12,3 +12,6 @@ returns-clause-in_rows c = λ array schema places has. let all = plain-attribute
 
 pub returns-clause-indexed : goal.returns-clause-indexed
 returns-clause-indexed c = λ array schema places has. let all = plain-attributes has.spells.readable.0 schema has.spells.readable.1 in λ i d within. (all i d within).indexed
+
+pub returns-clause-sets : goal.returns-clause-sets
+returns-clause-sets c = λ array schema places has. lone-sets has.spells.readable.0 schema has.spells.readable.1
