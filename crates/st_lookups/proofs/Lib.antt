@@ -12,3 +12,5 @@ pub mod Membered
 pub mod Indexed
 pub mod Single
 pub mod Holding
+pub mod Picked
+pub mod Kept

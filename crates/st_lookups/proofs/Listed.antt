@@ -86,7 +86,7 @@ module _ (laws : RowLaws) (s : State) (program : IsOfProgram s) (ty : ℕ) where
 
 module _ {X : Type 0} where
   -- what passes either of two tests stands in two parts, where nothing that passes the first one follows on what passes the second one
-  parts : (before : X → X → Bool) (p q : X → Bool) → ((x y : X) → q x ≡ true → before x y ≡ true → p y ≡ false) → ((x : X) → p x ≡ true → q x ≡ false) → (xs : List X) → ascends before xs ≡ true
+  pub parts : (before : X → X → Bool) (p q : X → Bool) → ((x y : X) → q x ≡ true → before x y ≡ true → p y ≡ false) → ((x : X) → p x ≡ true → q x ≡ false) → (xs : List X) → ascends before xs ≡ true
       → filter p xs ++ filter q xs ≡ filter (λ x. p x || q x) xs
   parts before p q later apart [] h = refl
   parts before p q later apart (x ∷ xs) h =
@@ -104,16 +104,16 @@ module _ {X : Type 0} where
       no-more x [] f a = refl
       no-more x (y ∷ ys) f a = ap (λ (b : Bool). cond b (y ∷ filter p ys) (filter p ys)) (later x y f (left (before x y) (list_all (before x) ys) a)) ∙ no-more x ys f (right (before x y) (list_all (before x) ys) a)
 
-  agree : (p q : X → Bool) (xs : List X) → ((x : X) → p x ≡ q x) → filter p xs ≡ filter q xs
+  pub agree : (p q : X → Bool) (xs : List X) → ((x : X) → p x ≡ q x) → filter p xs ≡ filter q xs
   agree p q xs h = let one : p ≡ q = λ i x. h x i in ap (λ (f : X → Bool). filter f xs) one
 
-  agree-all : (t p q : X → Bool) (xs : List X) → ((x : X) → t x ≡ true → p x ≡ q x) → list_all t xs ≡ true → filter p xs ≡ filter q xs
+  pub agree-all : (t p q : X → Bool) (xs : List X) → ((x : X) → t x ≡ true → p x ≡ q x) → list_all t xs ≡ true → filter p xs ≡ filter q xs
   agree-all t p q [] h a = refl
   agree-all t p q (x ∷ xs) h a =
       ap (λ (b : Bool). cond b (x ∷ filter p xs) (filter p xs)) (h x (left (t x) (list_all t xs) a)) ∙ ap (λ (l : List X). cond (q x) (x ∷ l) l) (agree-all t p q xs h (right (t x) (list_all t xs) a))
 
 -- an entity's type isn't below that of one in front of it
-in-front : (x y : EntityId) → entity_before x y ≡ true → x.ty ≤ y.ty
+pub in-front : (x y : EntityId) → entity_before x y ≡ true → x.ty ≤ y.ty
 in-front x y h = by (nat_cmp x.ty y.ty) (ranked x.ty y.ty (nat_cmp x.ty y.ty) refl) h
   where
     by : (o : Ordering) → MatchOrdering o (x.ty < y.ty) (x.ty ≡ y.ty) (y.ty < x.ty) → is_lt (ordering_then o (nat_cmp x.serial y.serial)) ≡ true → x.ty ≤ y.ty
@@ -121,16 +121,16 @@ in-front x y h = by (nat_cmp x.ty y.ty) (ranked x.ty y.ty (nat_cmp x.ty y.ty) re
     by Equal m k = omega (arith, m)
     by Greater m k = absurd (true≢false (sym k))
 
-is-number : (m n : ℕ) → (m == n) ≡ true → m ≡ n
+pub is-number : (m n : ℕ) → (m == n) ≡ true → m ≡ n
 is-number m n h = grind (arith, nat_tests)
 
-lower : (m n k : ℕ) → (m == k) ≡ true → m ≤ n → nat_lt n k ≡ false
+pub lower : (m n k : ℕ) → (m == k) ≡ true → m ≤ n → nat_lt n k ≡ false
 lower m n k h l = grind (arith, nat_tests)
 
-other-than : (m k : ℕ) → nat_lt m k ≡ true → (m == k) ≡ false
+pub other-than : (m k : ℕ) → nat_lt m k ≡ true → (m == k) ≡ false
 other-than m k h = grind (arith, nat_tests)
 
-up-to : (m k : ℕ) → (nat_lt m k || (m == k)) ≡ nat_lt m (k + 1)
+pub up-to : (m k : ℕ) → (nat_lt m k || (m == k)) ≡ nat_lt m (k + 1)
 up-to m k = grind (arith, nat_tests)
 
 pub none-yet : (schema : Outline) (ty : ℕ) (es : List EntityId) → filter (λ e. nat_lt e.ty 0 && isa schema e.ty ty) es ≡ []

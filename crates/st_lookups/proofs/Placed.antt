@@ -44,7 +44,7 @@ low-all schema =
     All-append (Low n) (extents ++ sets ++ indexes ++ inverses) columns three (low-others n (store Column) (λ k. omega arith) (filter (λ number. keeps_one Column (attribute schema number)) (below schema.next)))
 
 -- what holds of the stores of places holds of each place's store
-by-store : (P : ℕ → Type 0) (places : List Place) → All P (map (λ p. p.store) places) → All (λ p. P p.store) places
+pub by-store : (P : ℕ → Type 0) (places : List Place) → All P (map (λ p. p.store) places) → All (λ p. P p.store) places
 by-store P [] all = All-nil (λ p. P p.store)
 by-store P (p ∷ ps) all = All-cons (λ q. P q.store) p ps (All-head P p.store (map (λ q. q.store) ps) all) (by-store P ps (All-tail P p.store (map (λ q. q.store) ps) all))
 

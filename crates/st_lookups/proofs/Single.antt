@@ -9,7 +9,6 @@ use Rattle.std.proofs.lemmas.Cmp.{tied_itself}
 use Rattle.std.proofs.lemmas.List.Elements.{All-filter, All-head, All-tail, filter_passes}
 use Rattle.st_values.specs.declared.value.EntityId.{EntityId}
 use Rattle.st_values.specs.declared.value.Value.{Value}
-use Rattle.st_values.specs.declared.value.Value.TheVariants.{Null}
 use Rattle.st_values.specs.Order.{entity_before, entity_order, same_entity, same_value, value_order}
 use Rattle.st_values.specs.Arranged.{ascends}
 use Rattle.st_values.proofs.Entities.{entity_before-strict, same_entity-is, same_entity-itself, same_value-is, same_value-itself}

@@ -57,9 +57,9 @@ by-place number f xs a h =
     let here = position-Some test xs k a is in
     ap (λ (o : Option ℕ). value_among o (map (λ b. f b.number) xs)) is ∙ get_or-map (λ (b : Attribute). f b.number) xs k a Null less ∙ ap f (number-is (get_or xs k a).number number here.1)
 
-pub value-there : (s : State) (e : EntityId) (number : ℕ) → All (λ a. a.column ≡ false) s.schema.attributes → HasSingle s e number
+pub value-cell : (s : State) (e : EntityId) (number : ℕ) → All (λ a. a.column ≡ false) s.schema.attributes → passes (λ a. isa s.schema e.ty a.owner && not a.many) (attribute s.schema number) ≡ true
     → value_among (position (λ a. a.number == number) (filter is_cell (attributes_in s.schema e.ty))) (entity_row s e).cells ≡ value_at number e s.triples
-value-there s e number in-rows has = by (attribute s.schema number) refl has.single
+value-cell s e number in-rows single = by (attribute s.schema number) refl single
   where
     by : (o : Option Attribute) → attribute s.schema number ≡ o → passes (λ a. isa s.schema e.ty a.owner && not a.many) o ≡ true
         → value_among (position (λ a. a.number == number) (filter is_cell (attributes_in s.schema e.ty))) (entity_row s e).cells ≡ value_at number e s.triples
@@ -69,6 +69,10 @@ value-there s e number in-rows has = by (attribute s.schema number) refl has.sin
         let cell : (isa s.schema e.ty a.owner && is_cell a) ≡ true = both (isa s.schema e.ty a.owner) (is_cell a) (left (isa s.schema e.ty a.owner) (not a.many) h) (both (not a.many) (not a.column) (right (isa s.schema e.ty a.owner) (not a.many) h) (ap not row-wise)) in
         by-place number (λ n. value_at n e s.triples) (filter is_cell (attributes_in s.schema e.ty)) a
         (ap (list_any (λ b. b.number == number)) (all-cells s.schema e.ty) ∙ kept-any (λ b. b.number == number) (λ b. isa s.schema e.ty b.owner && is_cell b) s.schema.attributes a f cell)
+
+pub value-there : (s : State) (e : EntityId) (number : ℕ) → All (λ a. a.column ≡ false) s.schema.attributes → HasSingle s e number
+    → value_among (position (λ a. a.number == number) (filter is_cell (attributes_in s.schema e.ty))) (entity_row s e).cells ≡ value_at number e s.triples
+value-there s e number in-rows has = value-cell s e number in-rows has.single
 
 some-cells : (x y : List Value) → Some x ≡ Some y → x ≡ y
 some-cells x y e = cc

@@ -1,21 +1,25 @@
 //! The entities that have a value, by the rows of its attribute.
-ghost use Rattle.std.specs.Prelude.{List, ◌≡◌, ◌∷◌, ◌++◌, [], true, if◌then◌else◌, IfOk, IfErr, OnOk, Some};
+ghost use Rattle.std.specs.Prelude.{List, ◌≡◌, ◌∷◌, ◌++◌, [], true, false, if◌then◌else◌, IfOk, IfErr, OnOk, Some, ◌<◌, ◌==◌, ◌&&◌, filter, length, position};
 ghost use Rattle.std.specs.List.{All};
 ghost use Rattle.st_lattice.specs.Outline.{attribute as numbered};
-ghost use Rattle.st_lattice.specs.Stores.{store};
+ghost use Rattle.st_lattice.specs.Lattice.{attributes_in, isa};
+ghost use Rattle.st_lattice.specs.Stores.{cell, extents, store};
 ghost use Rattle.st_pages.specs.declared.places.Place.{Place};
 ghost use Rattle.st_pages.specs.Places.{place_of};
 ghost use Rattle.st_rows.specs.declared.fault.RowFault.TheVariants as row_fault;
 ghost use Rattle.st_values.specs.Order.{same_value};
-ghost use Rattle.st_state.specs.State.{turned};
+ghost use Rattle.st_state.specs.State.{turned, value_at};
+ghost use Rattle.st_state.specs.Calls.{CanHold};
+ghost use Rattle.st_state.specs.Rows.{entity_row};
 ghost use Rattle.st_store.specs.Stores.{IsPlace};
 ghost use Rattle.st_catalog.specs.Stores.{AreOf};
 ghost use Rattle.st_index.specs.Change.{IsTurned};
-ghost use Rattle.st_lookups.specs.Looks.{Peeks, Finds, OfState, value_among};
+ghost use Rattle.st_lookups.specs.Looks.{Peeks, Finds, OfState, is_cell, value_among};
 
-use crate::extent::cells_in;
+use crate::extent::{cell_index, cells_in, extent_of, serial_key};
 use crate::sets::{member_in, set_place};
 use crate::walk::{Visit, walk};
+use st_database::laws_of_places;
 use st_keys::laws_of_keys;
 use st_lattice::{Attribute, Schema, StoreKind, store};
 use st_page::PageFault;
@@ -205,5 +209,131 @@ impl Visit for Celled<'_> {
             Ok((serial, cells)) => self.keep(serial, cells.as_slice()),
             Err(fault) => Err(fault),
         }
+    }
+}
+
+/// Adds the entities of exactly one type in whose rows the cell of an attribute has a value, in order.
+fn having_exact<S: Store, P: Pages>(
+    alloc: Global,
+    schema: &Schema,
+    places: &Places,
+    pages: &mut P,
+    ty: u16,
+    number: u16,
+    value: &Value,
+    entities: Entities,
+) -> Result<Entities, PageFault>
+    requires of { AreOf schema.now places.now }
+    requires fair { All IsPlace places.now }
+    ensures keeps { Peeks (P.follows pages.old pages.new) (P.attempt pages.old) (P.attempt pages.new) (P.met pages.old) (P.met pages.new) result }
+    ensures finds { OfState S.holds (P.attempt pages.old) (P.attempt pages.new) schema.now places.now (λ array s. Finds (P.asked pages.old pages.new) (P.attempt pages.old) (P.attempt pages.new) array
+        (λ more. more ≡ entities ++ filter (λ e. same_value (value_among (position (λ a. a.number == number) (filter is_cell (attributes_in s.schema ty))) (entity_row s e).cells) value.now) (filter (λ e. e.ty == ty) s.live))
+        (store StoreKind.Extent ty ∷ []) result) }
+{
+    laws_of_keys();
+    laws_of_rows();
+    let Some(place) = extent_of(schema, places, ty) else {
+        return Ok(entities);
+    };
+    let index = cell_index(schema, ty, number);
+    let mut celled = Celled {
+        schema,
+        ty,
+        index,
+        value,
+        entities,
+    };
+    match walk::<S, P, Celled>(alloc, place, pages, &serial_key(0), &mut celled) {
+        Ok(()) => Ok(celled.entities),
+        Err(fault) => Err(fault),
+    }
+}
+
+/// Adds the entities of exactly one type whose attribute has a value, in order, where the type has the attribute.
+fn having_of<S: Store, P: Pages>(
+    alloc: Global,
+    schema: &Schema,
+    places: &Places,
+    pages: &mut P,
+    attribute: &Attribute,
+    other: u16,
+    value: &Value,
+    entities: Entities,
+) -> Result<Entities, PageFault>
+    requires of { AreOf schema.now places.now }
+    requires fair { All IsPlace places.now }
+    requires known { other < length schema.now.names }
+    ensures keeps { Peeks (P.follows pages.old pages.new) (P.attempt pages.old) (P.attempt pages.new) (P.met pages.old) (P.met pages.new) result }
+    ensures finds { OfState S.holds (P.attempt pages.old) (P.attempt pages.new) schema.now places.now (λ array s. numbered s.schema attribute.now.number ≡ Some attribute.now → attribute.now.many ≡ false →
+        Finds (P.asked pages.old pages.new) (P.attempt pages.old) (P.attempt pages.new) array
+        (λ more. more ≡ entities ++ filter (λ e. (e.ty == other) && (isa s.schema e.ty attribute.now.owner && same_value (value_at attribute.now.number e s.triples) value.now)) s.live)
+        (extents schema.now attribute.now.owner) result) }
+{
+    laws_of_places();
+    if schema.isa(other, attribute.owner) {
+        having_exact::<S, P>(
+            alloc,
+            schema,
+            places,
+            pages,
+            other,
+            attribute.number,
+            value,
+            entities,
+        )
+    } else {
+        Ok(entities)
+    }
+}
+
+/// The entities whose attribute has a value, in order, by going over the rows of all types that have the attribute.
+pub(crate) fn cell_holders<S: Store, P: Pages>(
+    alloc: Global,
+    schema: &Schema,
+    places: &Places,
+    pages: &mut P,
+    attribute: &Attribute,
+    value: &Value,
+) -> Result<Entities, PageFault>
+    requires of { AreOf schema.now places.now }
+    requires fair { All IsPlace places.now }
+    ensures keeps { Peeks (P.follows pages.old pages.new) (P.attempt pages.old) (P.attempt pages.new) (P.met pages.old) (P.met pages.new) result }
+    ensures finds { OfState S.holds (P.attempt pages.old) (P.attempt pages.new) schema.now places.now (λ array s. numbered s.schema attribute.now.number ≡ Some attribute.now → attribute.now.many ≡ false → CanHold s attribute.now.number value.now →
+        Finds (P.asked pages.old pages.new) (P.attempt pages.old) (P.attempt pages.new) array
+        (λ entities. entities ≡ turned attribute.now.number value.now s.triples) (extents schema.now attribute.now.owner) result) }
+{
+    let mut entities = Entities::new(alloc);
+    for other in 0..schema.type_count() {
+        match having_of::<S, P>(
+            alloc, schema, places, pages, attribute, other, value, entities,
+        ) {
+            Ok(more) => entities = more,
+            Err(fault) => return Err(fault),
+        }
+    }
+    Ok(entities)
+}
+
+/// The entities that have a value, in order, by the rows where the values of the attribute stand.
+pub(crate) fn row_holders<S: Store, P: Pages>(
+    alloc: Global,
+    schema: &Schema,
+    places: &Places,
+    pages: &mut P,
+    attribute: &Attribute,
+    value: &Value,
+) -> Result<Entities, PageFault>
+    requires of { AreOf schema.now places.now }
+    requires fair { All IsPlace places.now }
+    requires there { numbered schema.now attribute.now.number ≡ Some attribute.now }
+    ensures keeps { Peeks (P.follows pages.old pages.new) (P.attempt pages.old) (P.attempt pages.new) (P.met pages.old) (P.met pages.new) result }
+    ensures finds { OfState S.holds (P.attempt pages.old) (P.attempt pages.new) schema.now places.now (λ array s. CanHold s attribute.now.number value.now →
+        Finds (P.asked pages.old pages.new) (P.attempt pages.old) (P.attempt pages.new) array
+        (λ entities. entities ≡ turned attribute.now.number value.now s.triples) (cell schema.now attribute.now) result) }
+{
+    if attribute.many {
+        set_holders::<S, P>(alloc, schema, places, pages, attribute, value)
+    } else {
+        cell_holders::<S, P>(alloc, schema, places, pages, attribute, value)
     }
 }

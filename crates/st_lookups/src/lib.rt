@@ -3,10 +3,11 @@
 #![tactic(auto)]
 
 mod extent;
+mod having;
 mod holders;
 mod sets;
-mod turned;
 mod walk;
 
 pub use extent::{cell_index, cells_at, extent_of, is_cell, is_live, list, value_of};
+pub use having::{found_holders, turned};
 pub use sets::members;

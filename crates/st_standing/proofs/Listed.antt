@@ -86,6 +86,11 @@ module _ (schema : Outline) where
       (in-left (store Set n) ((extents_first ++ kind_stores Set) ++ kind_stores Index) (kind_stores Inverse)
       (in-left (store Set n) (extents_first ++ kind_stores Set) (kind_stores Index) (in-right (store Set n) extents_first (kind_stores Set) (in-kind schema Set n h k))))
 
+  pub has-index : (n : ℕ) → n < schema.next → keeps_one Index (attribute schema n) ≡ true → is_in (store Index n) (stores_of schema) ≡ true
+  has-index n h k =
+      in-left (store Index n) (((extents_first ++ kind_stores Set) ++ kind_stores Index) ++ kind_stores Inverse) (kind_stores Column)
+      (in-left (store Index n) ((extents_first ++ kind_stores Set) ++ kind_stores Index) (kind_stores Inverse) (in-right (store Index n) (extents_first ++ kind_stores Set) (kind_stores Index) (in-kind schema Index n h k)))
+
   pub has-column : (n : ℕ) → n < schema.next → keeps_one Column (attribute schema n) ≡ true → is_in (store Column n) (stores_of schema) ≡ true
   has-column n h k =
       in-right (store Column n) (((extents_first ++ kind_stores Set) ++ kind_stores Index) ++ kind_stores Inverse) (kind_stores Column) (in-kind schema Column n h k)

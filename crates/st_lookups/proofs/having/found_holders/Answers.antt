@@ -16,7 +16,7 @@ use Rattle.st_standing.specs.Standing.{turned_rows, view_of}
 use Rattle.st_standing.proofs.Turning.{entities-turned, of-pairs}
 use Rattle.st_lookups.proofs.Indexed.{of-some, pairs-named, rows-found, there-is}
 use Rattle.st_lookups.proofs.Membered.{its-number}
-use Rattle.st_lookups.proofs.turned.found_holders.Goals as goal
+use Rattle.st_lookups.proofs.having.found_holders.Goals as goal
 
 pub returns-clause-finds : goal.returns-clause-finds
 returns-clause-finds g c =
