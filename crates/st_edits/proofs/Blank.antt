@@ -9,7 +9,6 @@ use Rattle.st_values.specs.declared.value.Kind.{Kind}
 use Rattle.st_values.specs.declared.value.Kind.TheVariants as kind
 use Rattle.st_values.specs.declared.value.Value.{Value}
 use Rattle.st_values.specs.declared.value.Value.TheVariants.{Int, Null}
-use Rattle.st_values.proofs.Tests.{either}
 use Rattle.st_lattice.specs.declared.attribute.Attribute.{Attribute}
 use Rattle.st_lattice.specs.Lattice.{attributes_in}
 use Rattle.st_lattice.specs.Outline.{Outline}

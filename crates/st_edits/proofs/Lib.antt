@@ -1,4 +1,15 @@
+pub mod Kept
+pub mod Valued
+pub mod Putting
+pub mod Exchanged
+pub mod Setting
 pub mod Telling
 pub mod Blank
-pub mod Numbers
 pub mod Making
+pub mod Altering
+pub mod Settling
+pub mod StoresPut
+pub mod Held
+pub mod Behind
+pub mod InSets
+pub mod Membering

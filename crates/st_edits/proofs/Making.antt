@@ -1,7 +1,7 @@
 -- A new entity: what calls on its extent give, and the state that pages stand for behind them.
-use Rattle.std.proofs.Common.{◌≡◌, ℕ, ◌+◌, ◌-◌, ◌*◌, ◌<◌, ◌≤◌, ◌^◌, ◌==◌, ◌||◌, Bool, true, false, List, [], ◌∷◌, ◌++◌, length, pos, slice_index_or, Option, Some, None, Result, Ok, Err, IsTrue, IfOk, IfErr, refl, sym, ap, ◌∙◌, subst, arith, true≢false}
-use Rattle.std.specs.Prelude.{nat_lt, slice_index, slice_set, if◌then◌else◌}
-use Rattle.std.specs.List.{All, position_or_len}
+use Rattle.std.proofs.Common.{◌≡◌, ℕ, ◌+◌, ◌*◌, ◌<◌, ◌≤◌, ◌^◌, ◌==◌, ◌||◌, Bool, true, false, List, [], ◌∷◌, length, pos, slice_index_or, Option, Some, None, Result, Ok, Err, refl, sym, ap, ◌∙◌, subst, arith, true≢false}
+use Rattle.std.specs.Prelude.{nat_lt, slice_index, if◌then◌else◌}
+use Rattle.std.specs.List.{All}
 use Rattle.std.proofs.lemmas.Bool.Decides.{nat_tests}
 use Rattle.std.proofs.lemmas.List.{get_or-set_same, get_or-set_other}
 use Rattle.std.proofs.lemmas.List.Elements.{All-cons, All-head, All-set, All-tail}
@@ -18,16 +18,15 @@ use Rattle.st_lattice.specs.Stores.{row_width, store}
 use Rattle.st_lattice.specs.declared.stores.StoreKind.TheVariants.{Extent}
 use Rattle.st_keys.specs.Keys.{IsEntity}
 use Rattle.st_pages.specs.declared.places.Place.{Place}
-use Rattle.st_pages.specs.Attempt.{Array, Attempt, Agrees, over}
+use Rattle.st_pages.specs.Attempt.{Array, Attempt, over}
 use Rattle.st_pages.specs.Calls.{is_of_looking}
-use Rattle.st_pages.specs.Places.{place_of}
 use Rattle.st_pages.specs.Reading.{OfDamage}
 use Rattle.st_store.specs.Rows.{with_row}
 use Rattle.st_store.specs.Stores.{among}
-use Rattle.st_index.proofs.Called.{PageLaws, earlier}
+use Rattle.st_index.proofs.Called.{PageLaws}
 use Rattle.st_index.proofs.Looked.{err-weaken, ok-weaken}
 use Rattle.st_database.specs.Database.{IsDatabase, View}
-use Rattle.st_database.specs.Touches.{Leads, Touches, WithStore}
+use Rattle.st_database.specs.Touches.{Leads, Touches}
 use Rattle.st_database.proofs.Frames.{StoreLaws, database-alike}
 use Rattle.st_database.proofs.Touching.{AreAmong, touches-more, touches-then}
 use Rattle.st_state.specs.declared.refusal.Refusal.{Refusal}
@@ -113,7 +112,7 @@ module _ {Self : Type 0} (attempt : Self → Attempt) (follows : Self → Self �
 -- ---- the state behind them
 
 module _ {X : Type 0} (before : X → X → Bool) (P : X → Type 0) where
-  put-in : (x : X) (xs : List X) → P x → All P xs → All P (placed before x xs)
+  pub put-in : (x : X) (xs : List X) → P x → All P xs → All P (placed before x xs)
   put-in x [] h all = All-cons P x [] h all
   put-in x (y ∷ ys) h all =
       either (before y x) (λ _. All P (placed before x (y ∷ ys)))

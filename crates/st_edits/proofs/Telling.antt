@@ -1,5 +1,5 @@
 -- What steps whose faults are those of pages say of the calls of bases.
-use Rattle.std.proofs.Common.{◌≡◌, ℕ, ◌≤◌, ◌==◌, Bool, true, false, List, Option, Some, None, Result, Ok, Err, IsTrue, IfOk, IfErr, refl, sym, ap, ◌∙◌, subst}
+use Rattle.std.proofs.Common.{◌≡◌, ℕ, ◌≤◌, ◌==◌, Bool, false, List, Option, Some, None, Ok, Err, IsTrue, refl, sym, ◌∙◌, subst}
 use Rattle.std.specs.Prelude.{IfSome}
 use Rattle.std.specs.List.{list_any}
 use Rattle.st_edge.specs.Faults.{Rose}
@@ -10,11 +10,10 @@ use Rattle.st_pages.specs.Attempt.{Array, Attempt, over}
 use Rattle.st_pages.specs.Calls as pages
 use Rattle.st_pages.specs.Reading.{OfDamage}
 use Rattle.st_state.specs.State.{State}
-use Rattle.st_state.specs.Calls.{Call, due, after, rules_of}
-use Rattle.st_plain.specs.declared.fault.BaseFault.{BaseFault}
-use Rattle.st_plain.specs.Base.{Gives, IsOwn, TellsMet, fault_behind}
+use Rattle.st_state.specs.Calls.{Call, due, rules_of}
+use Rattle.st_plain.specs.Base.{Gives, IsOwn, fault_behind}
 use Rattle.st_standing.specs.Standing.{NearlyStandsAt}
-use Rattle.st_edits.specs.Edits.{Behaves, Edits, met_of, told}
+use Rattle.st_edits.specs.Edits.{Behaves, Edits, told}
 use Rattle.st_edits.specs.Steps.{Left, Turns}
 
 some-is : (f g : PageFault) → Some f ≡ Some g → f ≡ g

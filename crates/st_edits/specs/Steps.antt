@@ -1,17 +1,23 @@
 -- What the steps give of which the calls consist: their faults are those of pages.
-use Rattle.std.specs.Prelude.{◌≡◌, ℕ, ◌+◌, ◌-◌, ◌*◌, ◌<◌, Bool, true, false, List, [], ◌∷◌, ◌++◌, replicate, Option, Some, None, Result, IfOk, IfErr}
+use Rattle.std.specs.Prelude.{◌≡◌, ℕ, ◌+◌, ◌-◌, ◌*◌, ◌<◌, Bool, true, false, List, [], ◌∷◌, ◌++◌, replicate, Option, Some, None, Result, Ok, Err, IfOk, IfErr, IsTrue, ⊤}
 use Rattle.std.specs.Int.{w32, to_be_bytes}
 use Rattle.st_page.specs.declared.fault.PageFault.{PageFault}
 use Rattle.st_values.specs.declared.value.EntityId.{EntityId}
+use Rattle.st_lattice.specs.declared.attribute.Attribute.{Attribute}
+use Rattle.st_lattice.specs.declared.stores.StoreKind.TheVariants.{Set}
 use Rattle.st_lattice.specs.Outline.{Outline, type_name}
+use Rattle.st_lattice.specs.Stores.{store}
+use Rattle.st_rows.specs.Rows.{pair_width}
 use Rattle.st_pages.specs.declared.places.Place.{Place}
 use Rattle.st_pages.specs.Attempt.{Array, Attempt, over}
 use Rattle.st_pages.specs.Calls.{is_of_looking}
 use Rattle.st_pages.specs.Reading.{OfDamage}
 use Rattle.st_store.specs.Rows.{with_row}
+use Rattle.st_store.specs.Stores.{IsPlace}
 use Rattle.st_database.specs.Database.{IsDatabase, View, with_last, with_rows}
 use Rattle.st_database.specs.Touches.{Touches}
-use Rattle.st_state.specs.declared.refusal.Refusal.TheVariants.{NumbersSpent}
+use Rattle.st_state.specs.declared.refusal.Refusal.{Refusal}
+use Rattle.st_state.specs.declared.refusal.Refusal.TheVariants.{NotUnique, NumbersSpent}
 use Rattle.st_state.specs.State.{State, entity_made, next_entity}
 use Rattle.st_state.specs.Calls.{Call, after, call_stores, due}
 use Rattle.st_state.specs.Bases.{last_serial, spent}
@@ -55,3 +61,25 @@ pub record Turns {A : Type 0} (asked : (ℕ → Bool) → (ℕ → Bool) → ℕ
   pub sound : IfErr result (OfDamage (λ page at. ⊥))
   pub early : IfErr result (λ fault. is_of_looking fault ≡ false → due s call ≡ None)
   pub touches : Touches asked a b array (call_stores s.schema call) true (17 * rows_added s (after s call)) (34 * rows_changed s (after s call))
+
+-- a value was set, or a rule refuses it, and the state that is left
+abbrev pub IsSettled : (Place → Array → List ℕ → List (List ℕ) → Type 0) → Attempt → Array → List Place → State → Call → Option Refusal → Type 0
+IsSettled form b array places s call None = (due s call ≡ None) × NearlyStandsAt form (over b array) places (after s call)
+IsSettled form b array places s call (Some refusal) = (due s call ≡ Some refusal) × NearlyStandsAt form (over b array) places s
+
+-- a call ended with a fault, and pages refused nothing
+abbrev pub EndsInLook : {A : Type 0} → Result A PageFault → Type 0
+EndsInLook (Ok x) = ⊥
+EndsInLook (Err fault) = IsTrue (is_of_looking fault)
+
+-- a refusal is by rule 4
+abbrev pub IsShared : Refusal → Type 0
+IsShared (NotUnique attribute holder) = ⊤
+IsShared _ = ⊥
+
+-- a place is that of an attribute's set, and laid out as such
+pub record IsSet (number : ℕ) (a : Attribute) (place : Place) : Type 0 where
+  pub is_place : IsPlace place
+  pub store_is : place.store ≡ store Set number
+  pub key : place.key ≡ pair_width a.kind
+  pub width : place.width ≡ pair_width a.kind

@@ -100,7 +100,7 @@ fn make_at<S: Store, P: Pages>(
     requires wide { 4 ≤ place.width }
     ensures follows { P.follows pages.old pages.new }
     ensures met { HandsOn (P.met pages.old) (P.met pages.new) result }
-    ensures kinds { PutsStores (P.asked pages.old pages.new) (P.attempt pages.old) (P.attempt pages.new) }
+    ensures kinds { PutsStores (P.attempt pages.old) (P.attempt pages.new) }
     ensures makes { WithStore S.holds (P.attempt pages.old) (P.attempt pages.new) place (λ array schema places view.
         MakesAt S.holds (P.asked pages.old pages.new) (P.attempt pages.old) (P.attempt pages.new) array schema places place view ty result) }
 {
@@ -124,7 +124,7 @@ fn make_next<S: Store, P: Pages>(
     requires known { ty < length schema.now.names }
     ensures follows { P.follows pages.old pages.new }
     ensures met { HandsOn (P.met pages.old) (P.met pages.new) result }
-    ensures kinds { PutsStores (P.asked pages.old pages.new) (P.attempt pages.old) (P.attempt pages.new) }
+    ensures kinds { PutsStores (P.attempt pages.old) (P.attempt pages.new) }
     ensures turns { OfState S.holds (P.attempt pages.old) (P.attempt pages.new) schema.now places.now (λ array s.
         Turns (P.asked pages.old pages.new) (P.attempt pages.old) (P.attempt pages.new) array s (Make ty) (Made S.holds (P.attempt pages.new) array places.now s ty) result) }
 {
@@ -153,7 +153,7 @@ pub fn make_entity<S: Store, P: Pages>(
     requires fair { All IsPlace places.now }
     requires known { ty < length schema.now.names }
     ensures behaves { Behaves (P.follows pages.old pages.new) (P.met pages.old) (P.met pages.new) (Make ty) result }
-    ensures kinds { PutsStores (P.asked pages.old pages.new) (P.attempt pages.old) (P.attempt pages.new) }
+    ensures kinds { PutsStores (P.attempt pages.old) (P.attempt pages.new) }
     ensures edits { OfState S.holds (P.attempt pages.old) (P.attempt pages.new) schema.now places.now (λ array s.
         Edits S.holds (P.asked pages.old pages.new) (P.attempt pages.old) (P.attempt pages.new) array places.now s (Make ty) (λ entity. entity ≡ next_entity s ty) result) }
 {

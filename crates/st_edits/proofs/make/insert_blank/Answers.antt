@@ -1,9 +1,8 @@
-use Rattle.std.proofs.Common.{◌≡◌, ℕ, ◌+◌, ◌-◌, ◌≤◌, List, [], ◌∷◌, ◌++◌, length, take, replicate, true, refl, sym, ap, ◌∙◌, subst, arith}
+use Rattle.std.proofs.Common.{ℕ, List, [], ◌∷◌, take, true, ap, ◌∙◌, subst}
 use Rattle.std.specs.Prelude.{⊤}
 use Rattle.st_store.specs.Rows.{with_row}
 use Rattle.st_database.specs.Database.{with_last, with_rows}
 use Rattle.st_database.specs.Touches.{Leads, WithStore}
-use Rattle.st_edits.specs.Steps.{new_row}
 use Rattle.st_edits.proofs.Blank.{front-is}
 use Rattle.st_edits.proofs.make.insert_blank.Goals as goal
 

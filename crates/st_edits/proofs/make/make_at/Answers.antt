@@ -1,6 +1,6 @@
-use Rattle.std.proofs.Common.{◌≡◌, ℕ, ◌<◌, ◌≤◌, arith, refl, sym, true≢false}
 use Rattle.st_pages.proofs.Carried.{Stays}
-use Rattle.st_index.proofs.Called.{PageLaws, earlier, kinds-then}
+use Rattle.st_index.proofs.Called.{PageLaws, earlier}
+use Rattle.st_edits.proofs.StoresPut.{puts-asked, puts-looked}
 use Rattle.st_edits.proofs.Making.{before-small, makes-fault, makes-none, makes-some}
 use Rattle.st_edits.proofs.make.make_at.Given as given
 use Rattle.st_edits.proofs.make.make_at.Goals as goal
@@ -18,7 +18,7 @@ laws g = record {
 }
 
 pub returns-in-Ok-eq4294967295-clause-kinds : goal.returns-in-Ok-eq4294967295-clause-kinds
-returns-in-Ok-eq4294967295-clause-kinds g c = λ puts. (0, g.met.P.Pages.asked_more c.args.pages.now c.serial_of.new.pages _ _ _ _ 0 0 (λ page h. refl) (λ page h. absurd (true≢false (sym h))) (omega arith) c.serial_of.ensures.asked)
+returns-in-Ok-eq4294967295-clause-kinds g c = puts-looked g.P.Pages.attempt g.P.Pages.follows g.P.Pages.asked (laws g) c.args.pages.now c.serial_of.new.pages c.serial_of.ensures.follows c.serial_of.ensures.written
 
 pub returns-in-Ok-eq4294967295-clause-makes : goal.returns-in-Ok-eq4294967295-clause-makes
 returns-in-Ok-eq4294967295-clause-makes g c = λ array schema places view agrees d at.
@@ -26,11 +26,9 @@ returns-in-Ok-eq4294967295-clause-makes g c = λ array schema places view agrees
     (c.in-Ok-eq4294967295.ensures.leads array schema places view agrees d at)
 
 pub returns-in-Ok-clause-kinds : goal.returns-in-Ok-clause-kinds
-returns-in-Ok-clause-kinds g c = λ puts. (
-  17,
-  kinds-then g.P.Pages.attempt g.P.Pages.follows g.P.Pages.asked (laws g) c.args.pages.now c.serial_of.new.pages c.make_with.new.pages c.serial_of.ensures.follows c.make_with.ensures.follows 0 17 17 (omega arith)
-      (λ h. g.met.P.Pages.asked_more c.args.pages.now c.serial_of.new.pages _ _ _ _ 0 0 (λ page k. refl) (λ page k. absurd (true≢false (sym k))) (omega arith) c.serial_of.ensures.asked) c.make_with.ensures.kinds puts,
-)
+returns-in-Ok-clause-kinds g c = λ puts.
+    puts-asked g.P.Pages.attempt g.P.Pages.follows g.P.Pages.asked (laws g) c.serial_of.new.pages c.make_with.new.pages c.make_with.ensures.follows 17 c.make_with.ensures.kinds
+    (puts-looked g.P.Pages.attempt g.P.Pages.follows g.P.Pages.asked (laws g) c.args.pages.now c.serial_of.new.pages c.serial_of.ensures.follows c.serial_of.ensures.written puts)
 
 pub returns-in-Ok-clause-makes : goal.returns-in-Ok-clause-makes
 returns-in-Ok-clause-makes g c = λ array schema places view agrees d at.
@@ -42,7 +40,7 @@ returns-in-Ok-clause-makes g c = λ array schema places view agrees d at.
     (λ mid. c.make_with.ensures.leads array schema places view agrees mid at)
 
 pub returns-in-Err-clause-kinds : goal.returns-in-Err-clause-kinds
-returns-in-Err-clause-kinds g c = λ puts. (0, g.met.P.Pages.asked_more c.args.pages.now c.serial_of.new.pages _ _ _ _ 0 0 (λ page h. refl) (λ page h. absurd (true≢false (sym h))) (omega arith) c.serial_of.ensures.asked)
+returns-in-Err-clause-kinds g c = puts-looked g.P.Pages.attempt g.P.Pages.follows g.P.Pages.asked (laws g) c.args.pages.now c.serial_of.new.pages c.serial_of.ensures.follows c.serial_of.ensures.written
 
 pub returns-in-Err-clause-makes : goal.returns-in-Err-clause-makes
 returns-in-Err-clause-makes g c = λ array schema places view agrees d at.

@@ -1,8 +1,7 @@
-use Rattle.std.proofs.Common.{◌≡◌, ℕ, Some, None, Option, Err, refl, sym, ap, ◌∙◌, subst}
+use Rattle.std.proofs.Common.{◌≡◌, Option, Err, refl, sym, ap, ◌∙◌, subst}
 use Rattle.st_values.specs.declared.value.EntityId.{EntityId}
 use Rattle.st_lattice.specs.Outline.{Outline, type_name}
 use Rattle.st_state.specs.Calls.{Make}
-use Rattle.st_state.specs.declared.refusal.Refusal.{Refusal}
 use Rattle.st_state.specs.declared.refusal.Refusal.TheVariants.{NumbersSpent}
 use Rattle.st_state.specs.State.{next_entity}
 use Rattle.st_edits.specs.Edits.{Behaves, Edits}

@@ -1,16 +1,13 @@
-use Rattle.std.proofs.Common.{◌≡◌, ℕ, ◌≤◌, Some, sym, ap, ◌∙◌, subst}
+use Rattle.std.proofs.Common.{sym, ap, ◌∙◌, subst}
 use Rattle.st_lattice.specs.Outline.{Outline}
-use Rattle.st_lattice.specs.Stores.{store}
-use Rattle.st_lattice.specs.declared.stores.StoreKind.TheVariants.{Extent}
 use Rattle.st_pages.specs.Places.{place_of}
 use Rattle.st_index.proofs.Called.{PageLaws}
 use Rattle.st_database.proofs.Frames.{StoreLaws}
 use Rattle.st_standing.specs.Standing.{view_of}
 use Rattle.st_standing.proofs.RowLaws.{RowLaws}
 use Rattle.st_lookups.specs.Looks.{IsExtent}
-use Rattle.st_pages.specs.Attempt.{over}
 use Rattle.st_edits.proofs.Making.{made-turns}
-use Rattle.st_edits.proofs.Numbers.{numbers-low}
+use Rattle.st_edits.proofs.Kept.{all-numbers}
 use Rattle.st_edits.proofs.make.make_next.Given as given
 use Rattle.st_edits.proofs.make.make_next.Goals as goal
 
@@ -48,7 +45,7 @@ returns-clause-turns g c =
     let ty = c.args.ty in
     λ array s agrees same stands.
     let extent = subst (λ (o : Outline). IsExtent o ty place) (sym same) c.in-Some.ensures.laid in
-    let numbers = numbers-low g.S.Store.holds (over (g.P.Pages.attempt c.args.pages.now) array) c.args.places.now s stands in
+    let numbers = all-numbers s.schema stands.database.has.spells.readable stands.legal.orderly in
     made-turns g.P.Pages.attempt g.P.Pages.follows g.P.Pages.asked (laws g) row_laws g.S.Store.holds g.S.Store.reach (stores g) c.args.pages.now c.make_at.new.pages array s c.args.places.now stands ty place extent
     (c.laws_of_made.ensures.added s ty stands.legal numbers extent.known) (c.laws_of_made.ensures.changed s ty stands.legal numbers extent.known) c.make_at.result
     (c.make_at.ensures.makes array s.schema c.args.places.now (view_of s) agrees stands.database (ap (λ n. place_of n c.args.places.now) extent.store_is ∙ sym c.in-Some.ensures.value))
