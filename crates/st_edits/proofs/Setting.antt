@@ -338,6 +338,32 @@ module _ (laws : RowLaws) (s : State) (legal : IsNearlyLegal s) (program : IsOfP
 
 -- ---- what can be set
 
+-- a value that can be held fits, but for what the program's types say
+pub like-held : (s : State) → All IsEntity s.live → (k : Kind) (w : Value) → can_hold s k w ≡ true → IsLike k w
+like-held s all kind.Int (Int i) m = tt
+like-held s all kind.Bool (Truth b) m = tt
+like-held s all (kind.Text limit) (Text t) m = within (length t) limit m
+  where
+    within : (x y : ℕ) → nat_le x y ≡ true → x ≤ y
+    within x y e = grind (arith, nat_tests, e)
+like-held s all (kind.Entity ty) (Entity x) m = live-entity s all x (right (isa s.schema x.ty ty) (is_live s x) m)
+like-held s all kind.Int Null m = absurd (true≢false (sym m))
+like-held s all kind.Int (Truth b) m = absurd (true≢false (sym m))
+like-held s all kind.Int (Text t) m = absurd (true≢false (sym m))
+like-held s all kind.Int (Entity x) m = absurd (true≢false (sym m))
+like-held s all kind.Bool Null m = absurd (true≢false (sym m))
+like-held s all kind.Bool (Int i) m = absurd (true≢false (sym m))
+like-held s all kind.Bool (Text t) m = absurd (true≢false (sym m))
+like-held s all kind.Bool (Entity x) m = absurd (true≢false (sym m))
+like-held s all (kind.Text limit) Null m = absurd (true≢false (sym m))
+like-held s all (kind.Text limit) (Int i) m = absurd (true≢false (sym m))
+like-held s all (kind.Text limit) (Truth b) m = absurd (true≢false (sym m))
+like-held s all (kind.Text limit) (Entity x) m = absurd (true≢false (sym m))
+like-held s all (kind.Entity ty) Null m = absurd (true≢false (sym m))
+like-held s all (kind.Entity ty) (Int i) m = absurd (true≢false (sym m))
+like-held s all (kind.Entity ty) (Truth b) m = absurd (true≢false (sym m))
+like-held s all (kind.Entity ty) (Text t) m = absurd (true≢false (sym m))
+
 -- a value that can be set fits, but for what the program's types say
 pub like-or-null : (s : State) → IsOfProgram s → (n : ℕ) (a : Attribute) → attribute s.schema n ≡ Some a → (v : Value) → CanBe s n v → IsLikeOrNull a.kind v
 like-or-null s program n a f v h = by v h
@@ -345,37 +371,12 @@ like-or-null s program n a f v h = by v h
     hold : (w : Value) → CanHold s n w → can_hold s a.kind w ≡ true
     hold w k = ap (passes (λ b. can_hold s b.kind w)) (sym f) ∙ k
 
-    like : (k : Kind) (w : Value) → can_hold s k w ≡ true → IsLike k w
-    like kind.Int (Int i) m = tt
-    like kind.Bool (Truth b) m = tt
-    like (kind.Text limit) (Text t) m = within (length t) limit m
-      where
-        within : (x y : ℕ) → nat_le x y ≡ true → x ≤ y
-        within x y e = grind (arith, nat_tests, e)
-    like (kind.Entity ty) (Entity x) m = live-entity s program.entities x (right (isa s.schema x.ty ty) (is_live s x) m)
-    like kind.Int Null m = absurd (true≢false (sym m))
-    like kind.Int (Truth b) m = absurd (true≢false (sym m))
-    like kind.Int (Text t) m = absurd (true≢false (sym m))
-    like kind.Int (Entity x) m = absurd (true≢false (sym m))
-    like kind.Bool Null m = absurd (true≢false (sym m))
-    like kind.Bool (Int i) m = absurd (true≢false (sym m))
-    like kind.Bool (Text t) m = absurd (true≢false (sym m))
-    like kind.Bool (Entity x) m = absurd (true≢false (sym m))
-    like (kind.Text limit) Null m = absurd (true≢false (sym m))
-    like (kind.Text limit) (Int i) m = absurd (true≢false (sym m))
-    like (kind.Text limit) (Truth b) m = absurd (true≢false (sym m))
-    like (kind.Text limit) (Entity x) m = absurd (true≢false (sym m))
-    like (kind.Entity ty) Null m = absurd (true≢false (sym m))
-    like (kind.Entity ty) (Int i) m = absurd (true≢false (sym m))
-    like (kind.Entity ty) (Truth b) m = absurd (true≢false (sym m))
-    like (kind.Entity ty) (Text t) m = absurd (true≢false (sym m))
-
     by : (w : Value) → CanBe s n w → IsLikeOrNull a.kind w
     by Null k = tt
-    by (Int i) k = like a.kind (Int i) (hold (Int i) k)
-    by (Truth b) k = like a.kind (Truth b) (hold (Truth b) k)
-    by (Text t) k = like a.kind (Text t) (hold (Text t) k)
-    by (Entity x) k = like a.kind (Entity x) (hold (Entity x) k)
+    by (Int i) k = like-held s program.entities a.kind (Int i) (hold (Int i) k)
+    by (Truth b) k = like-held s program.entities a.kind (Truth b) (hold (Truth b) k)
+    by (Text t) k = like-held s program.entities a.kind (Text t) (hold (Text t) k)
+    by (Entity x) k = like-held s program.entities a.kind (Entity x) (hold (Entity x) k)
 
 pub can-hold : (s : State) (n : ℕ) (a : Attribute) → attribute s.schema n ≡ Some a → (v : Value) → CanBe s n v → null v ≡ false → can_hold s a.kind v ≡ true
 can-hold s n a f v h k = by v h k

@@ -25,6 +25,7 @@ ghost use Rattle.st_edits.specs.Steps.{IsSet, Left, Turns};
 use crate::fault::told;
 use st_counts::laws_of_members;
 use st_database::{insert_row, laws_of_order, laws_of_places, note_pair, remove_row};
+use st_index::fits;
 use st_keys::laws_of_keys;
 use st_lattice::{Attribute, Schema, StoreKind, store};
 use st_page::PageFault;
@@ -38,23 +39,6 @@ use std::alloc::Global;
 /// The most bytes that a row of a value and an entity has.
 const MOST_BYTES: usize = 262;
 
-/// An integer fits, whatever it is.
-fn is_integer(number: i64) -> bool
-    ensures so { IsTrue result → Fits Kind.Int (Value.Int number) }
-    ensures all { result ≡ true }
-{
-    let _ = number;
-    true
-}
-
-/// Whether a text is no longer than a limit.
-fn is_short(text: &str, limit: u8) -> bool
-    ensures so { IsTrue result → Fits (Kind.Text limit) (Value.Text text.now) }
-    ensures all { (s : State) → can_hold s (Kind.Text limit) (Value.Text text.now) ≡ true → result ≡ true }
-{
-    text.len() <= limit as usize
-}
-
 /// Whether an entity has a serial.
 fn has_serial(entity: EntityId) -> bool
     ensures so { IsTrue result → IsEntity entity }
@@ -63,18 +47,12 @@ fn has_serial(entity: EntityId) -> bool
     entity.serial != 0
 }
 
-/// Whether a value has a kind, and is not too long for it.
+/// Whether an attribute of a kind may hold a value, as far as the value alone tells.
 fn may_hold(value: &Value, kind: Kind) -> bool
     ensures so { IsTrue result → Fits kind value.now }
     ensures all { (s : State) → All IsEntity s.live → can_hold s kind value.now ≡ true → result ≡ true }
 {
-    match (kind, value) {
-        (Kind::Int, Value::Int(number)) => is_integer(*number),
-        (Kind::Bool, Value::Bool(_)) => true,
-        (Kind::Text(limit), Value::Text(text)) => is_short(text.as_str(), limit),
-        (Kind::Entity(_), Value::Entity(entity)) => has_serial(*entity),
-        _ => false,
-    }
+    fits(value, kind)
 }
 
 /// The place of the set of an attribute, by the places of the schema's stores.
