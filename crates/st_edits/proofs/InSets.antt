@@ -41,7 +41,7 @@ use Rattle.st_standing.proofs.Turning.{added-nothing, noted-added, noted-taken, 
 use Rattle.st_standing.proofs.ValueAt.{added-others, taken-others}
 use Rattle.std.proofs.lemmas.List.Elements.{All-filter}
 use Rattle.st_state.proofs.Kept.{filter-nearly}
-use Rattle.st_edits.specs.Steps.{IsSet, Left, Turns}
+use Rattle.st_edits.specs.Steps.{IsSet, Left, Takes, Turns}
 use Rattle.st_schema_bytes.specs.SchemaBytes.{IsReadable}
 use Rattle.st_edits.proofs.Setting.{turned-few}
 use Rattle.st_edits.proofs.Behind.{IsKept, aside-has, is-number, kept-places, rows-behind, set-alone}
@@ -254,7 +254,7 @@ module _ {Self : Type 0} (attempt : Self → Attempt) (follows : Self → Self �
     serials = program.serials;
   }
 
-  module _ (changes : has_value s number e v ≡ true → 1 + turned_count a ≤ rows_changed s fewer) where
+  module _ (most : ℕ) (changes : has_value s number e v ≡ true → 1 + turned_count a ≤ most) where
     abbrev left_view : View
     left_view = with_rows place.store (without_row place.key old_pair (rows_at s place.store)) (view_of s)
 
@@ -263,26 +263,26 @@ module _ {Self : Type 0} (attempt : Self → Attempt) (follows : Self → Self �
         rows_at-set fewer number a f small ∙ value_rows-taken laws s number a f legal program e v fits entity
         ∙ sym (λ i. without_row (set.key i) old_pair ((ap (rows_at s) set.store_is ∙ rows_at-set s number a f small) i))
 
-    few-removed : removed_by place.key old_pair (rows_at s place.store) ≤ rows_changed s fewer
-    few-removed = subst (λ (o : Option (List ℕ)). (if is_some o then 1 else 0) ≤ rows_changed s fewer) (sym held)
-        (either (has_value s number e v) (λ h. has_value s number e v ≡ h → (if is_some (if h then Some old_pair else None) then 1 else 0) ≤ rows_changed s fewer) (λ _ h. let x = changes h in omega (arith, x)) (λ _ h. omega arith) refl)
+    few-removed : removed_by place.key old_pair (rows_at s place.store) ≤ most
+    few-removed = subst (λ (o : Option (List ℕ)). (if is_some o then 1 else 0) ≤ most) (sym held)
+        (either (has_value s number e v) (λ h. has_value s number e v ≡ h → (if is_some (if h then Some old_pair else None) then 1 else 0) ≤ most) (λ _ h. let x = changes h in omega (arith, x)) (λ _ h. omega arith) refl)
 
     abbrev Leaves : Self → Self → Result Bool PageFault → Type 0
-    Leaves x z result = Turns (asked x z) (attempt x) (attempt z) array s (Take e number v) (Left form (attempt z) array places s (Take e number v) (has_value s number e v)) result
+    Leaves x z result = Takes form (asked x z) (attempt x) (attempt z) array places s e number v most result
 
     abbrev Out : Self → Self → Result Bool PageFault → Type 0
     Out x y result = Leads form (asked x y) (attempt x) (attempt y) array s.schema places left_view (λ was. was ≡ is_some (row_with place.key old_pair (rows_at s place.store))) (place.store ∷ []) true
         0 (34 * removed_by place.key old_pair (rows_at s place.store)) result
 
-    out-touched : (x y : Self) (result : Result Bool PageFault) → Out x y result → Touches (asked x y) (attempt x) (attempt y) array (changed_stores s.schema e number) true (17 * rows_added s fewer) (34 * rows_changed s fewer)
+    out-touched : (x y : Self) (result : Result Bool PageFault) → Out x y result → Touches (asked x y) (attempt x) (attempt y) array (changed_stores s.schema e number) true 0 (34 * most)
     out-touched x y result l =
         touched-one attempt follows asked page_laws form reach stores array s fewer (Take e number v) places fewer-legal fewer-program refl e number a small f of kept-these place.store set.store_is x y
-        0 (34 * removed_by place.key old_pair (rows_at s place.store)) (34 * rows_changed s fewer) (17 * rows_added s fewer)
+        0 (34 * removed_by place.key old_pair (rows_at s place.store)) (34 * most) 0
         (omega arith) (let k = few-removed in omega (arith, k)) l.touches
 
     -- the row was not taken out
     pub take-fault : (x y : Self) (fault : PageFault) → Out x y (Err fault) → Leaves x y (Err fault)
-    take-fault x y fault l = record { answers = tt; sound = l.sound; early = λ h. refl; touches = out-touched x y (Err fault) l }
+    take-fault x y fault l = record { answers = tt; sound = l.sound; touches = out-touched x y (Err fault) l }
 
     was-there : is_some (row_with place.key old_pair (rows_at s place.store)) ≡ has_value s number e v
     was-there = ap is_some held ∙ either (has_value s number e v) (λ h. is_some (if h then Some old_pair else None) ≡ h) (λ _. refl) (λ _. refl)
@@ -300,7 +300,6 @@ module _ {Self : Type 0} (attempt : Self → Attempt) (follows : Self → Self �
                 (λ m. ap (rows_at fewer) (is-number at place.store m ∙ set.store_is) ∙ set-taken) (λ m. ap (λ (u : State). rows_at u at) same)) (λ at. refl) l.answers.1,
           );
           sound = tt;
-          early = tt;
           touches = out-touched x y (Ok false) l;
         }
 
@@ -320,7 +319,7 @@ module _ {Self : Type 0} (attempt : Self → Attempt) (follows : Self → Self �
         (times-one (length (turned_places number places)) (rows_for v + 0) (turned_count a) (ap (λ n. n + 0) r.rows) few-these)
 
     both-touched : (x y z : Self) → follows x y → follows y z → Out x y (Ok true) → (result : Result Unit PageFault) → OutNoted y z result
-        → Touches (asked x z) (attempt x) (attempt z) array (changed_stores s.schema e number) true (17 * rows_added s fewer) (34 * rows_changed s fewer)
+        → Touches (asked x z) (attempt x) (attempt z) array (changed_stores s.schema e number) true 0 (34 * most)
     both-touched x y z xy yz l result m =
         let h : has_value s number e v ≡ true = sym (l.answers.0 ∙ was-there) in
         let q = changes h in
@@ -328,11 +327,11 @@ module _ {Self : Type 0} (attempt : Self → Attempt) (follows : Self → Self �
         let j = fewer-pairs in
         let other : removed_by place.key old_pair (rows_at s place.store) ≤ 1 = either (is_some (row_with place.key old_pair (rows_at s place.store))) (λ b. (if b then 1 else 0) ≤ 1) (λ _. omega arith) (λ _. omega arith) in
         touched-two attempt follows asked page_laws form reach stores array s fewer (Take e number v) places fewer-legal fewer-program refl e number a small f of kept-these place.store set.store_is x y z xy yz
-        0 (17 * pairs_added number places v Null) (34 * removed_by place.key old_pair (rows_at s place.store)) (34 * pairs_changed number places v Null) (17 * rows_added s fewer) (34 * rows_changed s fewer)
+        0 (17 * pairs_added number places v Null) (34 * removed_by place.key old_pair (rows_at s place.store)) (34 * pairs_changed number places v Null) 0 (34 * most)
         (omega (arith, i)) (omega (arith, q, j, other)) l.touches m.touches
 
     pub take-stopped : (x y z : Self) → follows x y → follows y z → Out x y (Ok true) → (fault : PageFault) → OutNoted y z (Err fault) → Leaves x z (Err fault)
-    take-stopped x y z xy yz l fault m = record { answers = tt; sound = m.sound; early = λ h. refl; touches = both-touched x y z xy yz l (Err fault) m }
+    take-stopped x y z xy yz l fault m = record { answers = tt; sound = m.sound; touches = both-touched x y z xy yz l (Err fault) m }
 
     pub take-out : (x y z : Self) → follows x y → follows y z → Out x y (Ok true) → (done : Unit) → OutNoted y z (Ok done) → Leaves x z (Ok true)
     take-out x y z xy yz l done m =
@@ -347,6 +346,5 @@ module _ {Self : Type 0} (attempt : Self → Attempt) (follows : Self → Self �
                 (subst (λ b. IsDatabase form (over (attempt z) array) s.schema places (if b then left_view else noted_view number a.kind e v Null left_view)) r.to_null m.answers.1),
           );
           sound = tt;
-          early = tt;
           touches = both-touched x y z xy yz l (Ok done) m;
         }

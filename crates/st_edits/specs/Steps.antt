@@ -3,6 +3,7 @@ use Rattle.std.specs.Prelude.{◌≡◌, ℕ, ◌+◌, ◌-◌, ◌*◌, ◌<◌
 use Rattle.std.specs.Int.{w32, to_be_bytes}
 use Rattle.st_page.specs.declared.fault.PageFault.{PageFault}
 use Rattle.st_values.specs.declared.value.EntityId.{EntityId}
+use Rattle.st_values.specs.declared.value.Value.{Value}
 use Rattle.st_lattice.specs.declared.attribute.Attribute.{Attribute}
 use Rattle.st_lattice.specs.declared.stores.StoreKind.TheVariants.{Set}
 use Rattle.st_lattice.specs.Outline.{Outline, type_name}
@@ -18,8 +19,8 @@ use Rattle.st_database.specs.Database.{IsDatabase, View, with_last, with_rows}
 use Rattle.st_database.specs.Touches.{Touches}
 use Rattle.st_state.specs.declared.refusal.Refusal.{Refusal}
 use Rattle.st_state.specs.declared.refusal.Refusal.TheVariants.{NotUnique, NumbersSpent}
-use Rattle.st_state.specs.State.{State, entity_made, next_entity}
-use Rattle.st_state.specs.Calls.{Call, after, call_stores, due}
+use Rattle.st_state.specs.State.{State, entity_made, has_value, next_entity}
+use Rattle.st_state.specs.Calls.{Call, Take, after, call_stores, changed_stores, due}
 use Rattle.st_state.specs.Bases.{last_serial, spent}
 use Rattle.st_state.specs.Rows.{rows_added, rows_changed}
 use Rattle.st_standing.specs.Standing.{NearlyStandsAt}
@@ -61,6 +62,14 @@ pub record Turns {A : Type 0} (asked : (ℕ → Bool) → (ℕ → Bool) → ℕ
   pub sound : IfErr result (OfDamage (λ page at. ⊥))
   pub early : IfErr result (λ fault. is_of_looking fault ≡ false → due s call ≡ None)
   pub touches : Touches asked a b array (call_stores s.schema call) true (17 * rows_added s (after s call)) (34 * rows_changed s (after s call))
+
+-- What a value that is taken out of a set gives of a state, as a step of a greater change: whether it was there, and no page is bad;
+-- and what it asks for, with no more pages changed than 34 for each of so many rows.
+pub record Takes (form : Place → Array → List ℕ → List (List ℕ) → Type 0) (asked : (ℕ → Bool) → (ℕ → Bool) → ℕ → Type 0) (a b : Attempt) (array : Array) (places : List Place)
+    (s : State) (e : EntityId) (number : ℕ) (v : Value) (most : ℕ) (result : Result Bool PageFault) : Type 0 where
+  pub answers : IfOk result (Left form b array places s (Take e number v) (has_value s number e v))
+  pub sound : IfErr result (OfDamage (λ page at. ⊥))
+  pub touches : Touches asked a b array (changed_stores s.schema e number) true 0 (34 * most)
 
 -- a value was set, or a rule refuses it, and the state that is left
 abbrev pub IsSettled : (Place → Array → List ℕ → List (List ℕ) → Type 0) → Attempt → Array → List Place → State → Call → Option Refusal → Type 0

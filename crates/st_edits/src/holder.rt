@@ -19,8 +19,8 @@ use st_store::Store;
 use st_values::{EntityId, Value, is_same_entity};
 use std::alloc::Global;
 
-/// The first entity that is another one.
-fn first_other(entities: &[EntityId], entity: EntityId) -> Option<EntityId>
+/// The first of some entities that is another one than one; none where there is no other.
+pub fn first_other(entities: &[EntityId], entity: EntityId) -> Option<EntityId>
     ensures { result ≡ find (is_other (Some entity)) entities.now }
 {
     for other in entities {

@@ -10,6 +10,9 @@ mod replacing;
 mod set;
 mod values;
 
+pub use fault::told;
+pub use holder::first_other;
 pub use make::make_entity;
-pub use members::{add_member, take_member};
+pub use members::{add_member, drop_member, take_member};
 pub use set::set_value;
+pub use values::put_row;

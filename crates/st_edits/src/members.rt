@@ -1,5 +1,5 @@
 //! Values more and fewer in sets.
-ghost use Rattle.std.specs.Prelude.{◌≡◌, ◌*◌, ◌∷◌, [], ◌<◌, true, false, not, is_some, Some, None, IsTrue, IfSome, length};
+ghost use Rattle.std.specs.Prelude.{◌≡◌, ◌+◌, ◌*◌, ◌∷◌, [], ◌<◌, ◌≤◌, ℕ, true, false, not, is_some, Some, None, IsTrue, IfSome, length};
 ghost use Rattle.std.specs.List.{All};
 ghost use Rattle.st_catalog.specs.Stores.{AreOf};
 ghost use Rattle.st_lattice.specs.declared.attribute.Attribute.{Attribute};
@@ -15,12 +15,13 @@ ghost use Rattle.st_store.specs.Rows.{row_with, with_row, without_row};
 ghost use Rattle.st_store.specs.Stores.{HasPutStores, IsPlace, any_page};
 ghost use Rattle.st_database.specs.Database.{with_rows};
 ghost use Rattle.st_database.specs.Touches.{Leads, WithStore, added_by, changed_by, removed_by};
+ghost use Rattle.st_counts.specs.Counts.{turned_count};
 ghost use Rattle.st_standing.specs.Standing.{pair_bytes};
 ghost use Rattle.st_state.specs.State.{State, has_value};
 ghost use Rattle.st_state.specs.Legal.{can_hold};
 ghost use Rattle.st_state.specs.Calls.{Add, Take, Admits};
 ghost use Rattle.st_edits.specs.Edits.{Behaves, Edits, PutsStores};
-ghost use Rattle.st_edits.specs.Steps.{IsSet, Left, Turns};
+ghost use Rattle.st_edits.specs.Steps.{IsSet, Left, Takes, Turns};
 
 use crate::fault::told;
 use st_counts::laws_of_members;
@@ -193,12 +194,12 @@ fn take_at<S: Store, P: Pages>(
     ensures follows { P.follows pages.old pages.new }
     ensures met { HandsOn (P.met pages.old) (P.met pages.new) result }
     ensures kinds { PutsStores (P.attempt pages.old) (P.attempt pages.new) }
-    ensures turns { OfState S.holds (P.attempt pages.old) (P.attempt pages.new) schema.now places.now (λ array s. Admits s (Take entity number value.now) →
-        Turns (P.asked pages.old pages.new) (P.attempt pages.old) (P.attempt pages.new) array s (Take entity number value.now) (Left S.holds (P.attempt pages.new) array places.now s (Take entity number value.now) (has_value s number entity value.now)) result) }
+    ensures takes { OfState S.holds (P.attempt pages.old) (P.attempt pages.new) schema.now places.now (λ array s. Admits s (Take entity number value.now) →
+        (most : ℕ) → (has_value s number entity value.now ≡ true → 1 + turned_count attribute.now ≤ most) →
+        Takes S.holds (P.asked pages.old pages.new) (P.attempt pages.old) (P.attempt pages.new) array places.now s entity number value.now most result) }
 {
     laws_of_keys();
     laws_of_rows();
-    laws_of_members();
     laws_of_order();
     laws_of_places();
     match drop_pair::<S, P>(alloc, place, pages, attribute.kind, entity, value) {
@@ -284,8 +285,14 @@ pub fn add_member<S: Store, P: Pages>(
     }
 }
 
-/// Takes a value out of the set of an attribute of an entity, where the entity and the value are such as can be stored.
-fn take_there<S: Store, P: Pages>(
+/// Takes a value out of the set of an attribute of an entity, as a step of a greater change. Whether it was there.
+///
+/// It leaves the state `member_taken` of the one that it is given: the same where the value was not there. Nothing is done
+/// where the entity or the value is none that can be stored.
+///
+/// # Errors
+/// What a call of `Pages` answered, and `Memory`. The attempt can then only be given up.
+pub fn drop_member<S: Store, P: Pages>(
     alloc: Global,
     schema: &Schema,
     places: &Places,
@@ -299,8 +306,9 @@ fn take_there<S: Store, P: Pages>(
     ensures follows { P.follows pages.old pages.new }
     ensures met { HandsOn (P.met pages.old) (P.met pages.new) result }
     ensures kinds { PutsStores (P.attempt pages.old) (P.attempt pages.new) }
-    ensures turns { OfState S.holds (P.attempt pages.old) (P.attempt pages.new) schema.now places.now (λ array s. Admits s (Take entity number value.now) →
-        Turns (P.asked pages.old pages.new) (P.attempt pages.old) (P.attempt pages.new) array s (Take entity number value.now) (Left S.holds (P.attempt pages.new) array places.now s (Take entity number value.now) (has_value s number entity value.now)) result) }
+    ensures takes { OfState S.holds (P.attempt pages.old) (P.attempt pages.new) schema.now places.now (λ array s. Admits s (Take entity number value.now) →
+        (most : ℕ) → ((a : Attribute) → numbered s.schema number ≡ Some a → has_value s number entity value.now ≡ true → 1 + turned_count a ≤ most) →
+        Takes S.holds (P.asked pages.old pages.new) (P.attempt pages.old) (P.attempt pages.new) array places.now s entity number value.now most result) }
 {
     let Some(attribute) = schema.attribute(number) else {
         return Ok(false);
@@ -342,7 +350,8 @@ pub fn take_member<S: Store, P: Pages>(
     ensures edits { OfState S.holds (P.attempt pages.old) (P.attempt pages.new) schema.now places.now (λ array s. Admits s (Take entity number value.now) →
         Edits S.holds (P.asked pages.old pages.new) (P.attempt pages.old) (P.attempt pages.new) array places.now s (Take entity number value.now) (λ changed. changed ≡ has_value s number entity value.now) result) }
 {
-    match take_there::<S, P>(alloc, schema, places, pages, entity, number, value) {
+    laws_of_members();
+    match drop_member::<S, P>(alloc, schema, places, pages, entity, number, value) {
         Ok(changed) => Ok(changed),
         Err(fault) => Err(told(fault)),
     }

@@ -34,8 +34,12 @@ use std::alloc::Global;
 /// The most bytes that a row has.
 const MOST_BYTES: usize = 1000;
 
-/// Puts the row of an entity with these cells into the extent at a place.
-fn put_row<S: Store, P: Pages>(
+/// Puts the row of an entity with these cells into the extent at a place, which is that of its type. Whether it was there.
+///
+/// # Errors
+/// What a call of `Pages` answered; `BadPage` only where the pages are no database with such a store. The attempt can then only
+/// be given up.
+pub fn put_row<S: Store, P: Pages>(
     alloc: Global,
     schema: &Schema,
     place: Place,

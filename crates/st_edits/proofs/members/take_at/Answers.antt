@@ -34,8 +34,8 @@ returns-in-Ok-clause-kinds g c = λ puts.
     puts-asked g.P.Pages.attempt g.P.Pages.follows g.P.Pages.asked (laws g) c.drop_pair.new.pages c.note_pair.new.pages c.note_pair.ensures.follows (17 * pairs_added c.args.number c.args.places.now c.args.value.now Null) c.note_pair.ensures.kinds
     (puts-asked g.P.Pages.attempt g.P.Pages.follows g.P.Pages.asked (laws g) c.args.pages.now c.drop_pair.new.pages c.drop_pair.ensures.follows 0 c.drop_pair.ensures.kinds puts)
 
-pub returns-in-Ok-clause-turns : goal.returns-in-Ok-clause-turns
-returns-in-Ok-clause-turns g c =
+pub returns-in-Ok-clause-takes : goal.returns-in-Ok-clause-takes
+returns-in-Ok-clause-takes g c =
     let row_laws : RowLaws = record {
       key_width = c.laws_of_keys.ensures.width;
       key_order = c.laws_of_keys.ensures.order;
@@ -45,7 +45,7 @@ returns-in-Ok-clause-turns g c =
       serials = c.laws_of_rows.ensures.serials;
     } in
     takes-out g.P.Pages.attempt g.P.Pages.follows g.P.Pages.asked (laws g) g.S.Store.holds g.S.Store.reach (stores g) row_laws c.args.schema.now c.args.places.now c.requires.of c.args.number c.ranges.number.fits c.args.attribute.now c.requires.there
-    c.args.place c.requires.set c.requires.at c.args.entity c.requires.entity c.args.value.now c.requires.fits c.laws_of_order.ensures c.laws_of_places.ensures.in_rows c.laws_of_members.ensures.taken_changes
+    c.args.place c.requires.set c.requires.at c.args.entity c.requires.entity c.args.value.now c.requires.fits c.laws_of_order.ensures c.laws_of_places.ensures.in_rows
     c.args.pages.now c.drop_pair.new.pages c.note_pair.new.pages c.drop_pair.ensures.follows c.note_pair.ensures.follows c.in-Ok-true.field-0 c.in-Ok-true.field-0-test c.in-Ok-true.ensures.leads c.in-Ok.field-0 c.in-Ok.ensures.leads
 
 pub returns-in-Err-note_pair-clause-kinds : goal.returns-in-Err-note_pair-clause-kinds
@@ -53,8 +53,8 @@ returns-in-Err-note_pair-clause-kinds g c = λ puts.
     puts-asked g.P.Pages.attempt g.P.Pages.follows g.P.Pages.asked (laws g) c.drop_pair.new.pages c.note_pair.new.pages c.note_pair.ensures.follows (17 * pairs_added c.args.number c.args.places.now c.args.value.now Null) c.note_pair.ensures.kinds
     (puts-asked g.P.Pages.attempt g.P.Pages.follows g.P.Pages.asked (laws g) c.args.pages.now c.drop_pair.new.pages c.drop_pair.ensures.follows 0 c.drop_pair.ensures.kinds puts)
 
-pub returns-in-Err-note_pair-clause-turns : goal.returns-in-Err-note_pair-clause-turns
-returns-in-Err-note_pair-clause-turns g c =
+pub returns-in-Err-note_pair-clause-takes : goal.returns-in-Err-note_pair-clause-takes
+returns-in-Err-note_pair-clause-takes g c =
     let row_laws : RowLaws = record {
       key_width = c.laws_of_keys.ensures.width;
       key_order = c.laws_of_keys.ensures.order;
@@ -64,15 +64,15 @@ returns-in-Err-note_pair-clause-turns g c =
       serials = c.laws_of_rows.ensures.serials;
     } in
     takes-stopped g.P.Pages.attempt g.P.Pages.follows g.P.Pages.asked (laws g) g.S.Store.holds g.S.Store.reach (stores g) row_laws c.args.schema.now c.args.places.now c.requires.of c.args.number c.ranges.number.fits c.args.attribute.now c.requires.there
-    c.args.place c.requires.set c.requires.at c.args.entity c.requires.entity c.args.value.now c.requires.fits c.laws_of_order.ensures c.laws_of_places.ensures.in_rows c.laws_of_members.ensures.taken_changes
+    c.args.place c.requires.set c.requires.at c.args.entity c.requires.entity c.args.value.now c.requires.fits c.laws_of_order.ensures c.laws_of_places.ensures.in_rows
     c.args.pages.now c.drop_pair.new.pages c.note_pair.new.pages c.drop_pair.ensures.follows c.note_pair.ensures.follows c.in-Ok-true.field-0 c.in-Ok-true.field-0-test c.in-Ok-true.ensures.leads c.in-Err-note_pair.fault c.in-Err-note_pair.ensures.leads
 
 pub returns-in-Ok-false-clause-kinds : goal.returns-in-Ok-false-clause-kinds
 returns-in-Ok-false-clause-kinds g c =
     puts-asked g.P.Pages.attempt g.P.Pages.follows g.P.Pages.asked (laws g) c.args.pages.now c.drop_pair.new.pages c.drop_pair.ensures.follows 0 c.drop_pair.ensures.kinds
 
-pub returns-in-Ok-false-clause-turns : goal.returns-in-Ok-false-clause-turns
-returns-in-Ok-false-clause-turns g c =
+pub returns-in-Ok-false-clause-takes : goal.returns-in-Ok-false-clause-takes
+returns-in-Ok-false-clause-takes g c =
     let row_laws : RowLaws = record {
       key_width = c.laws_of_keys.ensures.width;
       key_order = c.laws_of_keys.ensures.order;
@@ -82,15 +82,15 @@ returns-in-Ok-false-clause-turns g c =
       serials = c.laws_of_rows.ensures.serials;
     } in
     takes-none g.P.Pages.attempt g.P.Pages.follows g.P.Pages.asked (laws g) g.S.Store.holds g.S.Store.reach (stores g) row_laws c.args.schema.now c.args.places.now c.requires.of c.args.number c.ranges.number.fits c.args.attribute.now c.requires.there
-    c.args.place c.requires.set c.requires.at c.args.entity c.requires.entity c.args.value.now c.requires.fits c.laws_of_order.ensures c.laws_of_places.ensures.in_rows c.laws_of_members.ensures.taken_changes
+    c.args.place c.requires.set c.requires.at c.args.entity c.requires.entity c.args.value.now c.requires.fits c.laws_of_order.ensures c.laws_of_places.ensures.in_rows
     c.args.pages.now c.drop_pair.new.pages c.in-Ok-false.field-0 c.in-Ok-false.field-0-test c.in-Ok-false.ensures.leads
 
 pub returns-in-Err-clause-kinds : goal.returns-in-Err-clause-kinds
 returns-in-Err-clause-kinds g c =
     puts-asked g.P.Pages.attempt g.P.Pages.follows g.P.Pages.asked (laws g) c.args.pages.now c.drop_pair.new.pages c.drop_pair.ensures.follows 0 c.drop_pair.ensures.kinds
 
-pub returns-in-Err-clause-turns : goal.returns-in-Err-clause-turns
-returns-in-Err-clause-turns g c =
+pub returns-in-Err-clause-takes : goal.returns-in-Err-clause-takes
+returns-in-Err-clause-takes g c =
     let row_laws : RowLaws = record {
       key_width = c.laws_of_keys.ensures.width;
       key_order = c.laws_of_keys.ensures.order;
@@ -100,5 +100,5 @@ returns-in-Err-clause-turns g c =
       serials = c.laws_of_rows.ensures.serials;
     } in
     takes-fault g.P.Pages.attempt g.P.Pages.follows g.P.Pages.asked (laws g) g.S.Store.holds g.S.Store.reach (stores g) row_laws c.args.schema.now c.args.places.now c.requires.of c.args.number c.ranges.number.fits c.args.attribute.now c.requires.there
-    c.args.place c.requires.set c.requires.at c.args.entity c.requires.entity c.args.value.now c.requires.fits c.laws_of_order.ensures c.laws_of_places.ensures.in_rows c.laws_of_members.ensures.taken_changes
+    c.args.place c.requires.set c.requires.at c.args.entity c.requires.entity c.args.value.now c.requires.fits c.laws_of_order.ensures c.laws_of_places.ensures.in_rows
     c.args.pages.now c.drop_pair.new.pages c.in-Err.fault c.in-Err.ensures.leads
