@@ -1,0 +1,5 @@
+pub mod Stepwise
+pub mod Lasting
+pub mod Holders
+pub mod Needed
+pub mod Ending

@@ -1,0 +1,16 @@
+pub mod Gone
+pub mod Cleared
+pub mod Fewer
+pub mod Among
+pub mod AllCounted
+pub mod Counted
+pub mod Forgetting
+pub mod RowLeft
+pub mod Asked
+pub mod Emptying
+pub mod Noted
+pub mod Leading
+pub mod Walking
+pub mod Owned
+pub mod OwnCounted
+pub mod Removing
