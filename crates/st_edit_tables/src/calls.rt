@@ -8,6 +8,7 @@ use crate::schemas::{database, opened};
 use crate::told::{push_entities, push_entity, push_fault, push_value, push_values, push_whether};
 use st_cases::{Asks, Case};
 use st_chain::Chain;
+use st_deletes::delete_entity;
 use st_edits::{add_member, make_entity, set_value, take_member};
 use st_lattice::Schema;
 use st_lookups::{cells_at, is_live, list, members, turned, value_of};
@@ -15,6 +16,7 @@ use st_memory_pages::MemoryPages;
 use st_page::PageFault;
 use st_pages::Places;
 use st_plain::BaseFault;
+use st_values::EntityId;
 use std::alloc::{AllocError, Global};
 use std::fmt::Write;
 use std::str::SplitWhitespace;
@@ -79,6 +81,7 @@ fn call(
         "set" => set(alloc, schema, places, pages, words, out),
         "add" => add(alloc, schema, places, pages, words, out),
         "take" => take(alloc, schema, places, pages, words, out),
+        "delete" => delete(alloc, schema, places, pages, entity(words), out),
         _ => match look(alloc, schema, places, pages, word, words, out) {
             Ok(told) => Ok(told?),
             Err(fault) => Err(BaseFault::Page(fault)),
@@ -164,6 +167,28 @@ fn take(
         alloc, schema, places, pages, entity, attribute, &old,
     )?;
     Ok(push_whether(out, changed)?)
+}
+
+/// Deletes an entity, if it is live.
+fn delete(
+    alloc: Global,
+    schema: &Schema,
+    places: &Places,
+    pages: &mut MemoryPages,
+    entity: EntityId,
+    out: &mut String,
+) -> Result<(), BaseFault>
+    requires of { AreOf schema.now places.now }
+    requires fair { All IsPlace places.now }
+{
+    match is_live::<Chain, MemoryPages>(alloc, schema, places, pages, entity) {
+        Ok(true) => {
+            delete_entity::<Chain, MemoryPages>(alloc, schema, places, pages, entity)?;
+            Ok(out.push_str(" ok")?)
+        }
+        Ok(false) => Ok(out.push_str(" not live")?),
+        Err(fault) => Err(BaseFault::Page(fault)),
+    }
 }
 
 /// Looks something up; whether there was memory for what is told.

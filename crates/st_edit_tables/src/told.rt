@@ -68,6 +68,12 @@ fn push_refused(out: &mut String, refusal: &Refusal) -> Result<(), AllocError> {
             out.push_str(attribute.as_str())?;
             push_entity(out, *holder)
         }
+        Refusal::StillNeeded { entity, attribute } => {
+            out.push_str(" refused 6")?;
+            push_entity(out, *entity)?;
+            out.push_str(" ")?;
+            out.push_str(attribute.as_str())
+        }
         Refusal::NumbersSpent { .. } => out.push_str(" refused 9"),
         Refusal::TooManyPages { .. } => out.push_str(" refused 12"),
         Refusal::Full { .. } => out.push_str(" refused 13"),
