@@ -1,0 +1,6 @@
+mod Filled
+mod Legal
+mod Pages
+mod Readable
+mod Schema
+mod Standing
