@@ -1,0 +1,5 @@
+pub mod Reaching
+pub mod Asking
+pub mod Giving
+pub mod Calling
+pub mod OfForm

@@ -1,0 +1,42 @@
+use Rattle.std.proofs.Common.{refl, subst, sym, ◌≡◌}
+use Rattle.std.specs.Prelude.{is_ok}
+use Rattle.st_lattice.specs.Outline.{Outline, attribute}
+use Rattle.st_state.specs.Calls.{Turned, found_in, stores_by}
+use Rattle.st_state.specs.State.{turned}
+use Rattle.st_index.proofs.Called.{PageLaws}
+use Rattle.st_database.proofs.Touching.{AreAmong}
+use Rattle.st_paged.proofs.Calling.{looked-asks, looked-continues, looked-gives, stood}
+use Rattle.st_paged.proofs.OfForm.{form, spot, spots}
+use Rattle.st_paged.proofs.base.PagedBase.turned.Given as given
+use Rattle.st_paged.proofs.base.PagedBase.turned.Goals as goal
+
+laws : (g : given.Over) → PageLaws g.P.Pages.attempt g.P.Pages.follows g.P.Pages.asked
+laws g = record {
+  is_sound = g.met.P.Pages.is_sound;
+  seen_stays = g.met.P.Pages.seen_stays;
+  drawn_stays = g.met.P.Pages.drawn_stays;
+  drawn_unwritten = g.met.P.Pages.drawn_unwritten;
+  follows_on = g.met.P.Pages.follows_on;
+  asked_more = g.met.P.Pages.asked_more;
+  asked_on = g.met.P.Pages.asked_on;
+  asked_tells = g.met.P.Pages.asked_tells;
+}
+
+pub returns-clause-follows : goal.returns-clause-follows
+returns-clause-follows g c =
+    looked-continues g.P.Pages.attempt g.P.Pages.follows g.P.Pages.asked (laws g) form spot spots c.self.inside.schema c.self.inside.places c.self.inside.pages c.turned.new.pages c.args.self.now c.self.view_is
+    (g.P.Pages.met c.self.inside.pages) (g.P.Pages.met c.turned.new.pages) c.turned.result c.turned.ensures.keeps
+
+pub returns-clause-gives : goal.returns-clause-gives
+returns-clause-gives g c = λ w s agrees stands admits.
+    let near = stood g.P.Pages.attempt g.P.Pages.follows g.P.Pages.asked (laws g) form spot spots c.self.inside.schema c.self.inside.places c.self.inside.pages c.turned.new.pages c.args.self.now c.self.view_is w s stands in
+    looked-gives g.P.Pages.attempt g.P.Pages.follows g.P.Pages.asked (laws g) form spot spots c.self.inside.schema c.self.inside.places c.self.inside.pages c.turned.new.pages c.args.self.now c.self.view_is w s stands
+    (g.P.Pages.met c.self.inside.pages) (g.P.Pages.met c.turned.new.pages) c.turned.result c.as_base.result (stores_by (found_in c.self.inside.schema) (attribute c.self.inside.schema c.args.attribute)) (Turned c.args.attribute c.args.value.now) (λ entities. entities ≡ turned c.args.attribute c.args.value.now s.triples)
+    c.as_base.ensures refl refl c.turned.ensures.keeps (c.turned.ensures.finds w s agrees near.of_schema near.nearly admits)
+
+pub returns-clause-asks : goal.returns-clause-asks
+returns-clause-asks g c = λ w s agrees stands admits.
+    let near = stood g.P.Pages.attempt g.P.Pages.follows g.P.Pages.asked (laws g) form spot spots c.self.inside.schema c.self.inside.places c.self.inside.pages c.turned.new.pages c.args.self.now c.self.view_is w s stands in
+    looked-asks g.P.Pages.attempt g.P.Pages.follows g.P.Pages.asked (laws g) form spot spots c.self.inside.schema c.self.inside.places c.self.inside.pages c.turned.new.pages c.args.self.now c.self.view_is w s stands
+    c.turned.result (stores_by (found_in c.self.inside.schema) (attribute c.self.inside.schema c.args.attribute)) (Turned c.args.attribute c.args.value.now) (is_ok c.as_base.result) (λ entities. entities ≡ turned c.args.attribute c.args.value.now s.triples)
+    (subst (λ (o : Outline). AreAmong (stores_by (found_in c.self.inside.schema) (attribute c.self.inside.schema c.args.attribute)) (stores_by (found_in o) (attribute o c.args.attribute))) (sym near.of_schema) (λ n h. h)) (c.turned.ensures.finds w s agrees near.of_schema near.nearly admits) tt

@@ -1,0 +1,3 @@
+pub mod Paged
+pub mod Answers
+pub mod Laws
