@@ -1,0 +1,141 @@
+-- What calls of a base asked of pages, as what a statement uses.
+use Rattle.std.proofs.Common.{◌≡◌, ℕ, ◌+◌, ◌*◌, ◌==◌, ◌||◌, Bool, true, false, cond, List, [], ◌∷◌, length, None, Result, Ok, Err, IsTrue, refl, sym, ap, ◌∙◌, subst, inl, inr, arith, true≢false}
+use Rattle.std.specs.Prelude.{◌&&◌, OnOk, filter, nat_le, not}
+use Rattle.std.specs.List.{list_all, list_any}
+use Rattle.std.proofs.lemmas.List.Sums.{sum_by-cons}
+use Rattle.st_values.proofs.Tests.{both, either, first-of, left, one-of, or-left, or-right, right}
+use Rattle.st_values.proofs.Entities.{same_entity-itself, same_value-itself}
+use Rattle.st_values.specs.Order.{same_entity, same_value}
+use Rattle.st_image.specs.Fields.{kind_of, store_of}
+use Rattle.st_pages.specs.declared.places.Place.{Place}
+use Rattle.st_pages.specs.Attempt.{Array, Attempt, over}
+use Rattle.st_pages.specs.Calls.{IsWithin}
+use Rattle.st_query.specs.declared.statement.Statement.{Statement}
+use Rattle.st_query.specs.Written.{is_written}
+use Rattle.st_state.specs.State.{State}
+use Rattle.st_state.specs.Calls.{Call, Live, Make, Get, Set, Members, Add, Take, Turned, Delete, Listed, after, may_change}
+use Rattle.st_state.specs.Rows.{Row, rows, rows_added, same_key, unmatched}
+use Rattle.st_state.proofs.Changed.{number-is, number-itself}
+use Rattle.st_state.specs.Legal.{IsLegal}
+use Rattle.st_meaning.specs.Statements.{Present, does}
+use Rattle.st_meaning.specs.Rules.{refusal}
+use Rattle.st_plain.specs.declared.fault.BaseFault.{BaseFault}
+use Rattle.st_plain.specs.Base.{Asked, puts, rows_drawn, stores_asked}
+use Rattle.st_store.specs.Stores.{among, is_page_of}
+use Rattle.st_index.proofs.Called.{PageLaws}
+use Rattle.st_index.proofs.Counted.{or-cases}
+use Rattle.st_database.specs.Touches.{belongs, may_touch}
+use Rattle.st_database.proofs.Listed.{any-found}
+use Rattle.st_standing.specs.Standing.{StandsFor}
+use Rattle.st_terms.specs.Looks.{AreAmong, AskedAt, Concludes}
+use Rattle.st_terms.specs.Checked.{touched}
+use Rattle.st_running.specs.Steps.{Steps, is_in_footprint, may_put}
+use Rattle.st_paged.specs.Paged.{AsksFor, IsReached, Parts, StandsIn}
+use Rattle.st_paged_steps.specs.InPages.{StepsInPages, Uses, is_used, may_use}
+
+-- ---- calls that only look add no rows
+
+key-itself : (r : Row) → same_key r r ≡ true
+key-itself r = both (r.store == r.store) (same_entity r.entity r.entity && same_value r.value r.value) (number-itself r.store) (both (same_entity r.entity r.entity) (same_value r.value r.value) (same_entity-itself r.entity) (same_value-itself r.value))
+
+-- each row of some that are among others is matched there
+matched : (rs others : List Row) → ((r : Row) → list_any (same_key r) rs ≡ true → list_any (same_key r) others ≡ true) → unmatched same_key rs others ≡ 0
+matched [] others more = refl
+matched (r ∷ rs) others more =
+    ap (λ (b : Bool). length (cond (not b) (r ∷ filter (λ x. not (list_any (same_key x) others)) rs) (filter (λ x. not (list_any (same_key x) others)) rs)))
+    (more r (first-of (same_key r r) (list_any (same_key r) rs) (key-itself r)))
+    ∙ matched rs others (λ x h. more x (one-of (same_key x r) (list_any (same_key x) rs) h))
+
+same-none : (s : State) → rows_added s s ≡ 0
+same-none s = matched (rows s) (rows s) (λ r h. h)
+
+still : (s : State) (call : Call) → may_change call ≡ false → after s call ≡ s
+still s (Live e) h = refl
+still s (Get e number) h = refl
+still s (Members e number) h = refl
+still s (Turned number value) h = refl
+still s (Listed ty) h = refl
+still s (Make ty) h = absurd (true≢false h)
+still s (Set e number value) h = absurd (true≢false h)
+still s (Add e number value) h = absurd (true≢false h)
+still s (Take e number value) h = absurd (true≢false h)
+still s (Delete e) h = absurd (true≢false h)
+
+none-drawn : (calls : List Asked) → puts calls ≡ false → rows_drawn calls ≡ 0
+none-drawn [] h = refl
+none-drawn (q ∷ qs) h =
+    let here : rows_added q.state (after q.state q.call) ≡ 0 = ap (rows_added q.state) (still q.state q.call (or-left (may_change q.call) (puts qs) h)) ∙ same-none q.state in
+    let rest = none-drawn qs (or-right (may_change q.call) (puts qs) h) in
+    sum_by-cons (λ (x : Asked). rows_added x.state (after x.state x.call)) q qs ∙ zeros (rows_added q.state (after q.state q.call)) (rows_drawn qs) here rest
+  where
+    zeros : (m n : ℕ) → m ≡ 0 → n ≡ 0 → m + n ≡ 0
+    zeros m n a b = omega (arith, a, b)
+
+-- ---- from the stores that calls ask to a statement's footprint
+
+all-among : (test : ℕ → Bool) (xs : List ℕ) (n : ℕ) → list_all test xs ≡ true → among xs n ≡ true → test n ≡ true
+all-among test [] n all h = absurd (true≢false (sym h))
+all-among test (x ∷ xs) n all h =
+    either (x == n) (λ b. (b || among xs n) ≡ true → test n ≡ true)
+    (λ k _. subst (λ (m : ℕ). test m ≡ true) (number-is x n k) (left (test x) (list_all test xs) all))
+    (λ _ k. all-among test xs n (right (test x) (list_all test xs) all) k) h
+
+module _ {P : Type 0} (attempt : P → Attempt) (follows : P → P → Type 0) (asked : P → P → (ℕ → Bool) → (ℕ → Bool) → ℕ → Type 0) (laws : PageLaws attempt follows asked)
+    (form : Place → Array → List ℕ → List (List ℕ) → Type 0) (spot : Place → Array → List ℕ → ℕ → Type 0) (a b : Parts P) (array : Array) (p : Present) (statement : Statement) where
+  pub uses-of : follows a.pages b.pages → (changes : Bool) → ((asked : List ℕ) → AreAmong asked (touched p.state.schema p.variables statement) → IsTrue (list_all (is_in_footprint p.state.schema p.variables statement) asked))
+      → AskedAt (AsksFor attempt follows form spot asked a b array) changes (touched p.state.schema p.variables statement) → Uses attempt asked a b array p statement changes
+  uses-of ab changes footprints at =
+      let before : Array = over (attempt a.pages) array in
+      let B = attempt b.pages in
+      let stores = stores_asked at.calls in
+      let inside = footprints stores at.within in
+      let used : ℕ → Bool = may_use p.state.schema p.variables statement B before in
+      let wide : IsWithin (may_touch stores B before) used = λ page h.
+      elim (or-cases (belongs stores before page) (B.drawn page) h) [
+        | inl k ↦
+            let found = any-found (λ store. is_page_of store (before page)) stores k in
+            let number : (store_of (before page) == found.0) ≡ true = left (store_of (before page) == found.0) (nat_le 2 (kind_of (before page)) && nat_le (kind_of (before page)) 4) found.2 in
+            first-of (is_used p.state.schema p.variables statement (before page)) (B.drawn page)
+            (both (nat_le 2 (kind_of (before page)) && nat_le (kind_of (before page)) 4) (is_in_footprint p.state.schema p.variables statement (store_of (before page)))
+            (right (store_of (before page) == found.0) (nat_le 2 (kind_of (before page)) && nat_le (kind_of (before page)) 4) found.2)
+            (subst (λ (n : ℕ). is_in_footprint p.state.schema p.variables statement n ≡ true) (sym (number-is (store_of (before page)) found.0 number))
+            (all-among (is_in_footprint p.state.schema p.variables statement) stores found.0 inside found.1)))
+        | inr d ↦ one-of (is_used p.state.schema p.variables statement (before page)) (B.drawn page) d
+      ] in
+      record {
+        most = 17 * rows_drawn at.calls;
+        idle = λ none. nothing (rows_drawn at.calls) (none-drawn at.calls (at.looks none));
+        still = λ none page. elim ((laws.asked_tells a.pages b.pages (may_touch stores B before) (λ other. puts at.calls && may_touch stores B before other) (17 * rows_drawn at.calls) ab at.asked.touches.asks).put_only page) [
+          | inl same ↦ same
+          | inr put ↦ absurd (true≢false (sym (left (puts at.calls) (may_touch stores B before page) put) ∙ at.looks none))
+        ];
+        asks = laws.asked_more a.pages b.pages (may_touch stores B before) (λ page. puts at.calls && may_touch stores B before page) used (λ page. changes && used page) (17 * rows_drawn at.calls) (17 * rows_drawn at.calls) wide
+            (λ page h. both changes (used page)
+            (either changes (λ c. changes ≡ c → c ≡ true) (λ _ _. refl) (λ _ none. absurd (true≢false (sym (left (puts at.calls) (may_touch stores B before page) h) ∙ at.looks none))) refl)
+            (wide page (right (puts at.calls) (may_touch stores B before page) h)))
+            (omega arith) at.asked.touches.asks;
+      }
+    where
+      nothing : (n : ℕ) → n ≡ 0 → 17 * n ≡ 0
+      nothing n e = omega (arith, e)
+
+  -- ---- a step, by the clauses of a base
+
+  module _ {A : Type 0} (right : A → Type 0) (states : (q : Present) → IsLegal q.state → (s : Statement) → IsTrue (is_written s) → refusal q s ≡ None → IsLegal (does q s).state)
+      (footprints : (asked : List ℕ) → AreAmong asked (touched p.state.schema p.variables statement) → IsTrue (list_all (is_in_footprint p.state.schema p.variables statement) asked)) where
+    pub step-in-pages : follows a.pages b.pages → (result : Result A BaseFault) → IsLegal p.state → IsTrue (is_written statement)
+        → Steps p statement (StandsIn attempt form b array) (AsksFor attempt follows form spot asked a b array) (λ e n. IsReached attempt b array e) right result → StepsInPages attempt asked form a b array p statement right result
+    step-in-pages ab result legal written steps = record {
+      concludes = steps.concludes;
+      full = whole result steps.concludes;
+      uses = uses-of ab (may_put statement) footprints steps.asked;
+      reached = steps.reached;
+      first = elim steps.first [
+        | inl got ↦ inl got
+        | inr looked ↦ inr (uses-of ab false footprints looked)
+      ];
+    }
+      where
+        whole : (r : Result A BaseFault) → Concludes (refusal p statement) (StandsIn attempt form b array) p.state (does p statement).state right r → OnOk r (StandsFor form (over (attempt b.pages) array) (does p statement).state)
+        whole (Ok x) h = record { legal = states p legal statement written h.0; nearly = (b.places, h.2.nearly) }
+        whole (Err fault) h = tt

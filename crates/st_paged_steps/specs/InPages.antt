@@ -1,0 +1,46 @@
+-- What a statement gives that is run over a database in pages, and what it asks of the pages.
+use Rattle.std.specs.Prelude.{◌≡◌, ◌⊎◌, ℕ, ◌&&◌, ◌||◌, Bool, false, nat_le, All, List, Result, OnOk}
+use Rattle.st_image.specs.Fields.{kind_of, store_of}
+use Rattle.st_lattice.specs.Outline.{Outline}
+use Rattle.st_pages.specs.declared.places.Place.{Place}
+use Rattle.st_pages.specs.Attempt.{Array, Attempt, over}
+use Rattle.st_query.specs.declared.statement.Statement.{Statement}
+use Rattle.st_query.specs.declared.term.Variable.{Variable}
+use Rattle.st_meaning.specs.Statements.{Present, does}
+use Rattle.st_meaning.specs.Rules.{refusal}
+use Rattle.st_plain.specs.declared.fault.BaseFault.{BaseFault}
+use Rattle.st_plain.specs.Base.{Reaches}
+use Rattle.st_standing.specs.Standing.{StandsFor}
+use Rattle.st_terms.specs.Looks.{Concludes}
+use Rattle.st_terms.specs.Checked.{places_of}
+use Rattle.st_running.specs.Steps.{first_place, is_in_footprint, may_put}
+use Rattle.st_paged.specs.Paged.{IsReached, Parts, StandsIn}
+
+-- whether a page is one of a store of a statement's footprint, by its bytes
+abbrev pub is_used : Outline → List Variable → Statement → List ℕ → Bool
+is_used schema variables statement page = (nat_le 2 (kind_of page) && nat_le (kind_of page) 4) && is_in_footprint schema variables statement (store_of page)
+
+-- whether it is, or was drawn
+abbrev pub may_use : Outline → List Variable → Statement → Attempt → Array → ℕ → Bool
+may_use schema variables statement b array page = is_used schema variables statement (array page) || b.drawn page
+
+module _ {P : Type 0} (attempt : P → Attempt) (asked : P → P → (ℕ → Bool) → (ℕ → Bool) → ℕ → Type 0) where
+  -- Between two values only pages of the stores of a statement's footprint, and drawn ones, were got, and put where any may be; where
+  -- none may be put, none was drawn, and what was written is what it was.
+  pub record Uses (a b : Parts P) (array : Array) (p : Present) (statement : Statement) (puts : Bool) : Type 0 where
+    pub most : ℕ
+    pub idle : puts ≡ false → most ≡ 0
+    pub still : puts ≡ false → (page : ℕ) → (attempt b.pages).written page ≡ (attempt a.pages).written page
+    pub asks : asked a.pages b.pages (may_use p.state.schema p.variables statement (attempt b.pages) (over (attempt a.pages) array))
+        (λ page. puts && may_use p.state.schema p.variables statement (attempt b.pages) (over (attempt a.pages) array) page) most
+
+  -- What a statement gives of an array that agrees with what was seen, and of a legal state that it stood for: what the definitions
+  -- say, and then it stands for the state that is left, in full; or the refusal that is due. It uses the pages of its own stores
+  -- alone, and puts none where it only looks; an answer tells that the pages were got of all places that it reads or sets; and before
+  -- the page was got of a place that is set, nothing is put or drawn.
+  pub record StepsInPages {A : Type 0} (form : Place → Array → List ℕ → List (List ℕ) → Type 0) (a b : Parts P) (array : Array) (p : Present) (statement : Statement) (right : A → Type 0) (result : Result A BaseFault) : Type 0 where
+    pub concludes : Concludes (refusal p statement) (StandsIn attempt form b array) p.state (does p statement).state right result
+    pub full : OnOk result (StandsFor form (over (attempt b.pages) array) (does p statement).state)
+    pub uses : Uses a b array p statement (may_put statement)
+    pub reached : Reaches (All (λ place. IsReached attempt b array place.entity) (places_of p statement)) result
+    pub first : All (λ place. IsReached attempt b array place.entity) (first_place p statement) ⊎ Uses a b array p statement false
