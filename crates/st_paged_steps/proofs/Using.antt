@@ -1,10 +1,11 @@
 -- What calls of a base asked of pages, as what a statement uses.
 use Rattle.std.proofs.Common.{◌≡◌, ℕ, ◌+◌, ◌*◌, ◌==◌, ◌||◌, Bool, true, false, cond, List, [], ◌∷◌, length, None, Result, Ok, Err, IsTrue, refl, sym, ap, ◌∙◌, subst, inl, inr, arith, true≢false}
 use Rattle.std.specs.Prelude.{◌&&◌, OnOk, filter, nat_le, not}
-use Rattle.std.specs.List.{list_all, list_any}
+use Rattle.std.specs.List.{list_all, list_any, sum_by}
 use Rattle.std.proofs.lemmas.List.Sums.{sum_by-cons}
 use Rattle.st_values.proofs.Tests.{both, either, first-of, left, one-of, or-left, or-right, right}
 use Rattle.st_values.proofs.Entities.{same_entity-itself, same_value-itself}
+use Rattle.st_values.specs.declared.value.Value.{Value}
 use Rattle.st_values.specs.Order.{same_entity, same_value}
 use Rattle.st_image.specs.Fields.{kind_of, store_of}
 use Rattle.st_pages.specs.declared.places.Place.{Place}
@@ -14,7 +15,7 @@ use Rattle.st_query.specs.declared.statement.Statement.{Statement}
 use Rattle.st_query.specs.Written.{is_written}
 use Rattle.st_state.specs.State.{State}
 use Rattle.st_state.specs.Calls.{Call, Live, Make, Get, Set, Members, Add, Take, Turned, Delete, Listed, after, may_change}
-use Rattle.st_state.specs.Rows.{Row, rows, rows_added, same_key, unmatched}
+use Rattle.st_state.specs.Rows.{Row, rows, rows_added, rows_changed, same_cells, same_key, unmatched}
 use Rattle.st_state.proofs.Changed.{number-is, number-itself}
 use Rattle.st_state.specs.Legal.{IsLegal}
 use Rattle.st_meaning.specs.Statements.{Present, does}
@@ -46,6 +47,27 @@ matched (r ∷ rs) others more =
     (more r (first-of (same_key r r) (list_any (same_key r) rs) (key-itself r)))
     ∙ matched rs others (λ x h. more x (one-of (same_key x r) (list_any (same_key x) rs) h))
 
+-- or given another content
+abbrev as_it_is : Row → Row → Bool
+as_it_is r other = same_key r other && same_cells r.cells other.cells
+
+cells-itself : (vs : List Value) → same_cells vs vs ≡ true
+cells-itself [] = refl
+cells-itself (v ∷ vs) = both (same_value v v) (same_cells vs vs) (same_value-itself v) (cells-itself vs)
+
+kept : (rs others : List Row) → ((r : Row) → list_any (as_it_is r) rs ≡ true → list_any (as_it_is r) others ≡ true) → unmatched as_it_is rs others ≡ 0
+kept [] others more = refl
+kept (r ∷ rs) others more =
+    ap (λ (b : Bool). length (cond (not b) (r ∷ filter (λ x. not (list_any (as_it_is x) others)) rs) (filter (λ x. not (list_any (as_it_is x) others)) rs)))
+    (more r (first-of (as_it_is r r) (list_any (as_it_is r) rs) (both (same_key r r) (same_cells r.cells r.cells) (key-itself r) (cells-itself r.cells))))
+    ∙ kept rs others (λ x h. more x (one-of (as_it_is x r) (list_any (as_it_is x) rs) h))
+
+zeros : (m n : ℕ) → m ≡ 0 → n ≡ 0 → m + n ≡ 0
+zeros m n a b = omega (arith, a, b)
+
+none-changed : (s : State) → rows_changed s s ≡ 0
+none-changed s = zeros (unmatched as_it_is (rows s) (rows s)) (unmatched same_key (rows s) (rows s)) (kept (rows s) (rows s) (λ r h. h)) (matched (rows s) (rows s) (λ r h. h))
+
 same-none : (s : State) → rows_added s s ≡ 0
 same-none s = matched (rows s) (rows s) (λ r h. h)
 
@@ -61,15 +83,13 @@ still s (Add e number value) h = absurd (true≢false h)
 still s (Take e number value) h = absurd (true≢false h)
 still s (Delete e) h = absurd (true≢false h)
 
-none-drawn : (calls : List Asked) → puts calls ≡ false → rows_drawn calls ≡ 0
-none-drawn [] h = refl
-none-drawn (q ∷ qs) h =
-    let here : rows_added q.state (after q.state q.call) ≡ 0 = ap (rows_added q.state) (still q.state q.call (or-left (may_change q.call) (puts qs) h)) ∙ same-none q.state in
-    let rest = none-drawn qs (or-right (may_change q.call) (puts qs) h) in
-    sum_by-cons (λ (x : Asked). rows_added x.state (after x.state x.call)) q qs ∙ zeros (rows_added q.state (after q.state q.call)) (rows_drawn qs) here rest
-  where
-    zeros : (m n : ℕ) → m ≡ 0 → n ≡ 0 → m + n ≡ 0
-    zeros m n a b = omega (arith, a, b)
+module _ (count : State → State → ℕ) (none : (s : State) → count s s ≡ 0) where
+  none-counted : (calls : List Asked) → puts calls ≡ false → sum_by (λ q. count q.state (after q.state q.call)) calls ≡ 0
+  none-counted [] h = refl
+  none-counted (q ∷ qs) h =
+      let here : count q.state (after q.state q.call) ≡ 0 = ap (count q.state) (still q.state q.call (or-left (may_change q.call) (puts qs) h)) ∙ none q.state in
+      let rest = none-counted qs (or-right (may_change q.call) (puts qs) h) in
+      sum_by-cons (λ (x : Asked). count x.state (after x.state x.call)) q qs ∙ zeros (count q.state (after q.state q.call)) (sum_by (λ x. count x.state (after x.state x.call)) qs) here rest
 
 -- ---- from the stores that calls ask to a statement's footprint
 
@@ -103,8 +123,9 @@ module _ {P : Type 0} (attempt : P → Attempt) (follows : P → P → Type 0) (
         | inr d ↦ one-of (is_used p.state.schema p.variables statement (before page)) (B.drawn page) d
       ] in
       record {
-        most = 17 * rows_drawn at.calls;
-        idle = λ none. nothing (rows_drawn at.calls) (none-drawn at.calls (at.looks none));
+        calls = at.calls;
+        few = at.asked.touches.few;
+        idle = λ none. (none-counted rows_added same-none at.calls (at.looks none), none-counted rows_changed none-changed at.calls (at.looks none));
         still = λ none page. elim ((laws.asked_tells a.pages b.pages (may_touch stores B before) (λ other. puts at.calls && may_touch stores B before other) (17 * rows_drawn at.calls) ab at.asked.touches.asks).put_only page) [
           | inl same ↦ same
           | inr put ↦ absurd (true≢false (sym (left (puts at.calls) (may_touch stores B before page) put) ∙ at.looks none))
@@ -115,9 +136,6 @@ module _ {P : Type 0} (attempt : P → Attempt) (follows : P → P → Type 0) (
             (wide page (right (puts at.calls) (may_touch stores B before page) h)))
             (omega arith) at.asked.touches.asks;
       }
-    where
-      nothing : (n : ℕ) → n ≡ 0 → 17 * n ≡ 0
-      nothing n e = omega (arith, e)
 
   -- ---- a step, by the clauses of a base
 

@@ -1,5 +1,5 @@
 -- What a statement gives that is run over a database in pages, and what it asks of the pages.
-use Rattle.std.specs.Prelude.{◌≡◌, ◌⊎◌, ℕ, ◌&&◌, ◌||◌, Bool, false, nat_le, All, List, Result, OnOk}
+use Rattle.std.specs.Prelude.{◌≡◌, ◌⊎◌, ℕ, ◌*◌, ◌≤◌, ◌&&◌, ◌||◌, Bool, false, nat_le, All, List, Result, OnOk}
 use Rattle.st_image.specs.Fields.{kind_of, store_of}
 use Rattle.st_lattice.specs.Outline.{Outline}
 use Rattle.st_pages.specs.declared.places.Place.{Place}
@@ -9,7 +9,8 @@ use Rattle.st_query.specs.declared.term.Variable.{Variable}
 use Rattle.st_meaning.specs.Statements.{Present, does}
 use Rattle.st_meaning.specs.Rules.{refusal}
 use Rattle.st_plain.specs.declared.fault.BaseFault.{BaseFault}
-use Rattle.st_plain.specs.Base.{Reaches}
+use Rattle.st_index.specs.Noted.{differences}
+use Rattle.st_plain.specs.Base.{Asked, Reaches, rows_drawn, rows_put}
 use Rattle.st_standing.specs.Standing.{StandsFor}
 use Rattle.st_terms.specs.Looks.{Concludes}
 use Rattle.st_terms.specs.Checked.{places_of}
@@ -25,14 +26,17 @@ abbrev pub may_use : Outline → List Variable → Statement → Attempt → Arr
 may_use schema variables statement b array page = is_used schema variables statement (array page) || b.drawn page
 
 module _ {P : Type 0} (attempt : P → Attempt) (asked : P → P → (ℕ → Bool) → (ℕ → Bool) → ℕ → Type 0) where
-  -- Between two values only pages of the stores of a statement's footprint, and drawn ones, were got, and put where any may be; where
-  -- none may be put, none was drawn, and what was written is what it was.
+  -- Between two values calls of a base were asked in a row, and only pages of the stores of a statement's footprint, and drawn ones,
+  -- were got, and put where any may be; at most 17 were drawn for each row that the calls add, and at most 34 have other bytes for
+  -- each row that they add, take out or give another content. Where none may be put, there are no such rows, and what was
+  -- written is what it was.
   pub record Uses (a b : Parts P) (array : Array) (p : Present) (statement : Statement) (puts : Bool) : Type 0 where
-    pub most : ℕ
-    pub idle : puts ≡ false → most ≡ 0
-    pub still : puts ≡ false → (page : ℕ) → (attempt b.pages).written page ≡ (attempt a.pages).written page
+    pub calls : List Asked
     pub asks : asked a.pages b.pages (may_use p.state.schema p.variables statement (attempt b.pages) (over (attempt a.pages) array))
-        (λ page. puts && may_use p.state.schema p.variables statement (attempt b.pages) (over (attempt a.pages) array) page) most
+        (λ page. puts && may_use p.state.schema p.variables statement (attempt b.pages) (over (attempt a.pages) array) page) (17 * rows_drawn calls)
+    pub few : differences (over (attempt a.pages) array) (over (attempt b.pages) array) ≤ 34 * rows_put calls
+    pub idle : puts ≡ false → (rows_drawn calls ≡ 0) × (rows_put calls ≡ 0)
+    pub still : puts ≡ false → (page : ℕ) → (attempt b.pages).written page ≡ (attempt a.pages).written page
 
   -- What a statement gives of an array that agrees with what was seen, and of a legal state that it stood for: what the definitions
   -- say, and then it stands for the state that is left, in full; or the refusal that is due. It uses the pages of its own stores
