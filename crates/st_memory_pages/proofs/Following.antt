@@ -6,7 +6,7 @@ use Rattle.std.proofs.lemmas.Bool.{eqb-true, ne_eqb, or_cases, or_right}
 use Rattle.st_image.specs.Fields.{blank}
 use Rattle.st_pages.specs.Attempt.{Attempt, saw, wrote, drew, draws, page_count}
 use Rattle.st_pages.specs.Calls.{Room, MayBeDrawn, TakesOne, TakesAtMostOne, risen, HasAsked, no_page, only}
-use Rattle.st_memory_pages.specs.Memory.{Grows}
+use Rattle.st_memory_pages.specs.Tried.{Grows}
 use Rattle.st_memory_pages.specs.Laws.{grows-itself, asked-nothing, asked-more}
 use Rattle.st_memory_pages.proofs.Counting.{how_many-at, below_page_count}
 

@@ -5,3 +5,4 @@ pub mod Counting
 pub mod Following
 pub mod Keeping
 pub mod Sounding
+mod Stopping

@@ -1,11 +1,14 @@
 -- The laws of pages, of pages in memory.
-use Rattle.std.proofs.Common.{◌≡◌, ℕ, ◌+◌, ◌≤◌, ◌||◌, ◌⊎◌, Bool, true, inl, inr, List, Option, Some, None, IsSome, IsTrue, refl, ap, ◌∙◌, arith}
+use Rattle.std.proofs.Common.{◌≡◌, ℕ, ◌+◌, ◌≤◌, ◌||◌, ◌⊎◌, Bool, true, inl, inr, List, Option, Some, None, IsSome, IsTrue, IfSome, refl, sym, ap, ◌∙◌, arith}
 use Rattle.std.proofs.lemmas.Bool.{or_cases, or_left, or_right}
 use Rattle.st_pages.specs.Attempt.{Attempt, IsSound as IsSoundAttempt, Agrees, how_many, page_count}
-use Rattle.st_pages.specs.Calls.{Room, HasAsked, IsWithin, IsNoMore, IsAllRoom}
+use Rattle.st_page.specs.declared.fault.PageFault.{PageFault}
+use Rattle.st_page.specs.declared.fault.PageFault.TheVariants.{BadPage, Conflict, Full, TooManyPages, DiskFault, Closed, Memory as Wanting}
+use Rattle.st_pages.specs.Calls.{Room, HasAsked, IsWithin, IsNoMore, IsAllRoom, IsStopped}
 use Rattle.st_memory_pages.specs.declared.memory_pages.MemoryPages.{MemoryPages}
 use Rattle.st_memory_pages.specs.Attempted.{first_room, is_left}
-use Rattle.st_memory_pages.specs.Memory.{Memory, memory_of, Grows, Follows}
+use Rattle.st_memory_pages.specs.Memory.{memory_of}
+use Rattle.st_memory_pages.specs.Tried.{Memory, Grows, Follows, TellsStop}
 use Rattle.st_memory_pages.specs.Whole.{whole-sound, whole-room, whole-agrees, whole-used, whole-left}
 
 -- an attempt grows
@@ -84,11 +87,25 @@ no-more in_use left new_in_use new_left same few =
 
 -- every attempt is sound
 pub is-sound : (m : MemoryPages) → IsSoundAttempt (memory_of m).attempt
-is-sound m = whole-sound m.held.images.items m.held.table.items m.held.changed m.held.left m.held.in_use m.held.cursor m.held.sound
+is-sound m = whole-sound m.tried.held.images.items m.tried.held.table.items m.tried.held.changed m.tried.held.left m.tried.held.in_use m.tried.held.cursor m.tried.held.sound
 
 -- all pages are in use, left or taken
 pub is-all-room : (m : MemoryPages) → IsAllRoom (memory_of m).attempt (Some (memory_of m).room)
-is-all-room m = whole-room m.held.images.items m.held.table.items m.held.changed m.held.left m.held.in_use m.held.cursor m.held.sound
+is-all-room m = whole-room m.tried.held.images.items m.tried.held.table.items m.tried.held.changed m.tried.held.left m.tried.held.in_use m.tried.held.cursor m.tried.held.sound
+
+-- the fault that was met last tells how full the pages are
+told-stop : (memory : Memory) (last : Option PageFault) → last ≡ memory.met.last → TellsStop memory → IfSome last (IsStopped memory.attempt (Some memory.room))
+told-stop memory None e is = tt
+told-stop memory (Some (BadPage page place)) e is = tt
+told-stop memory (Some (Conflict page holder)) e is = tt
+told-stop memory (Some (Full in_use)) e is = is.full in_use (sym e)
+told-stop memory (Some (TooManyPages count)) e is = is.many count (sym e)
+told-stop memory (Some DiskFault) e is = tt
+told-stop memory (Some Closed) e is = tt
+told-stop memory (Some Wanting) e is = tt
+
+pub is-stopped : (m : MemoryPages) → IfSome (memory_of m).met.last (IsStopped (memory_of m).attempt (Some (memory_of m).room))
+is-stopped m = told-stop (memory_of m) (memory_of m).met.last refl m.stopped
 
 -- what every call keeps
 pub follows-itself : (m : Memory) → Follows m m
@@ -119,11 +136,11 @@ room-stays a b stays = no-more a.room.in_use a.room.left b.room.in_use b.room.le
 
 -- the array has what was seen of it
 pub agrees : (m : MemoryPages) → Agrees (memory_of m).attempt (memory_of m).array
-agrees m = whole-agrees m.held.images.items m.held.table.items
+agrees m = whole-agrees m.tried.held.images.items m.tried.held.table.items
 
 -- how many pages are in use, and how many are left
 pub in-use : (m : MemoryPages) → (memory_of m).room.in_use ≡ (first_room (memory_of m).array).in_use
-in-use m = whole-used m.held.images.items m.held.table.items m.held.changed m.held.left m.held.in_use m.held.cursor m.held.sound
+in-use m = whole-used m.tried.held.images.items m.tried.held.table.items m.tried.held.changed m.tried.held.left m.tried.held.in_use m.tried.held.cursor m.tried.held.sound
 
 pub left : (m : MemoryPages) → (memory_of m).room.left ≡ how_many (is_left (memory_of m).array (memory_of m).attempt) page_count
-left m = whole-left m.held.images.items m.held.table.items m.held.changed m.held.left m.held.in_use m.held.cursor m.held.sound
+left m = whole-left m.tried.held.images.items m.tried.held.table.items m.tried.held.changed m.tried.held.left m.tried.held.in_use m.tried.held.cursor m.tried.held.sound

@@ -1,14 +1,23 @@
 //! Pages in memory.
+ghost use Rattle.st_memory_pages.specs.Tried.{TellsStop, tried_memory};
+
 use crate::attempted::Attempted;
 use crate::tally::Tally;
 use st_image::Page;
 use std::alloc::{AllocError, Global};
 
+/// Pages in memory, but that the answers of calls aren't counted yet.
+#[derive(Drop)]
+pub struct Tried {
+    pub(crate) held: Attempted,
+    pub(crate) tally: Tally,
+}
+
 /// A plain array of pages, as one attempt at a transaction sees and changes it, held in memory.
 #[derive(Drop)]
 pub struct MemoryPages {
-    pub(crate) held: Attempted,
-    pub(crate) tally: Tally,
+    pub(crate) tried: Tried,
+    ghost stopped: { TellsStop (tried_memory tried) },
 }
 
 impl MemoryPages {
@@ -40,8 +49,17 @@ impl MemoryPages {
     {
         let held = Attempted::new(alloc, images)?;
         Ok(MemoryPages {
-            held,
-            tally: Tally::new(failing),
+            tried: Tried {
+                held,
+                tally: Tally::new(failing),
+            },
         })
+    }
+
+    /// How many calls of `get` were made.
+    pub fn gets(&self) -> u64
+        ensures { result ≡ (memory_of self.now).counts.gets }
+    {
+        self.tried.tally.gets()
     }
 }

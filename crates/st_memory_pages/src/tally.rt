@@ -44,6 +44,13 @@ impl Tally {
         }
     }
 
+    /// How many calls of `get` were counted.
+    pub fn gets(&self) -> u64
+        ensures { result ≡ self.now.gets }
+    {
+        self.gets
+    }
+
     /// Counts a call of `get`, besides what `fails` counts.
     pub fn count_get(&mut self)
         ensures gets { self.old.gets ≤ self.new.gets }
@@ -66,13 +73,14 @@ impl Tally {
         fails
     }
 
-    /// Counts an answer that is a fault, but want of memory.
+    /// Counts an answer that is a fault, but want of memory; where the call went well, no fault is the last one any longer.
     pub fn meet<T>(&mut self, answer: &Result<T, PageFault>)
         ensures met { record { count = self.new.met; last = self.new.last } ≡ met_behind (record { count = self.old.met; last = self.old.last }) answer.now }
         ensures rest { self.new ≡ record self.old { met = self.new.met; last = self.new.last } }
     {
         match answer {
-            Ok(_) | Err(PageFault::Memory) => {}
+            Ok(_) => self.last = None,
+            Err(PageFault::Memory) => {}
             Err(fault) => {
                 self.met = risen(self.met);
                 self.last = Some(*fault);

@@ -10,7 +10,7 @@ use Rattle.st_pages.specs.Attempt.{Attempt, wrote, changed, draws, taken, page_c
 abbrev pub risen : ℕ → ℕ
 risen n = if n == 2 ^ 64 - 1 then n else n + 1
 
--- the answers that were faults but want of memory: how many, and the last one
+-- the answers that were faults but want of memory: how many, and the last one, as long as no call has gone well behind it
 pub record Met : Type 0 where
   pub count : ℕ
   pub last : Option PageFault
@@ -19,7 +19,7 @@ pub record Met : Type 0 where
 abbrev pub met_behind : {A : Type 0} → Met → Result A PageFault → Met
 met_behind met (Err Memory) = met
 met_behind met (Err fault) = record { count = risen met.count; last = Some fault }
-met_behind met (Ok x) = met
+met_behind met (Ok x) = record { count = met.count; last = None }
 
 -- the fault of a call of pages that is met; that a page is damaged is found out behind a call
 abbrev pub met_fault : PageFault → Option PageFault
@@ -72,6 +72,12 @@ pub record Room : Type 0 where
 -- why no page was drawn, by the room that is told: none is left, and that many are in use
 abbrev pub IsFull : Option Room → ℕ → Type 0
 IsFull room in_use = IfSome room (λ r. (r.left ≡ 0) × (in_use ≡ r.in_use))
+
+-- What a fault that was met last tells of the pages: as many are changed as may be, or none is left to be drawn.
+abbrev pub IsStopped : Attempt → Option Room → PageFault → Type 0
+IsStopped a room (TooManyPages count) = (count ≡ 4001) × (changed a ≡ 4000)
+IsStopped a room (Full in_use) = IsFull room in_use
+IsStopped a room _ = ⊤
 
 -- Why no page was drawn: what lies below failed or was closed before, none is left, or memory wants.
 abbrev pub IsDrawCause : Option Room → Counts → Counts → Type 0 → PageFault → Type 0

@@ -1,6 +1,6 @@
 ghost use Rattle.std.specs.Prelude.{◌≡◌, ◌⊎◌, ℕ, ◌+◌, ◌<◌, ◌≤◌, Bool, List, Option, Some, None, IsSome, IfSome, IsTrue, OnOk, IfOk, IfErr, OnErr};
 ghost use Rattle.st_pages.specs.Attempt.{Attempt, IsSound, known, saw, wrote, drew};
-ghost use Rattle.st_pages.specs.Calls.{Met, Counts, Room, IsAllRoom, NeverFall, HasAsked, MayBeDrawn, TakesOne, TakesAtMostOne, IsNoMore, IsGetCause, IsPutCause, IsDrawCause, IsWithin, met_behind, risen, no_page, only};
+ghost use Rattle.st_pages.specs.Calls.{Met, Counts, Room, IsAllRoom, NeverFall, HasAsked, MayBeDrawn, TakesOne, TakesAtMostOne, IsNoMore, IsGetCause, IsPutCause, IsDrawCause, IsWithin, IsStopped, met_behind, risen, no_page, only};
 
 use st_image::Page;
 use st_page::PageFault;
@@ -18,7 +18,7 @@ pub trait Pages {
     // Calls of `get`, conflicts, and faults of what lies below.
     ghost counts: { Self → Counts };
 
-    // The answers that were faults.
+    // The answers that were faults, and the last of them, as long as no call has gone well behind it.
     ghost met: { Self → Met };
 
     // How many pages are in use and can still be drawn, where that is told.
@@ -103,6 +103,9 @@ pub trait Pages {
     ghost never_fall: { (a b : Self) → follows a b → NeverFall (counts a) (counts b) };
 
     ghost met_never_falls: { (a b : Self) → follows a b → (met a).count ≤ (met b).count };
+
+    // The fault that was met last tells how full the pages are, as long as no call has gone well behind it.
+    ghost is_stopped: { (a : Self) → IfSome (met a).last (IsStopped (attempt a) (room a)) };
 
     ghost room_stays: { (a b : Self) → follows a b → IsNoMore (room a) (room b) };
 

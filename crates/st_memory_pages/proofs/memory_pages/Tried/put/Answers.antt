@@ -1,21 +1,21 @@
 use Rattle.std.proofs.Common.{ap, arith}
 use Rattle.st_memory_pages.specs.declared.tally.Tally.{Tally}
 use Rattle.st_memory_pages.specs.Attempted.{attempt, room}
-use Rattle.st_memory_pages.proofs.Following.{fresh-grows, fresh-asked, fresh-took}
-use Rattle.st_memory_pages.proofs.memory_pages.MemoryPages.try_fresh.Goals as goal
+use Rattle.st_memory_pages.proofs.Following.{put-grows, put-asked, put-took}
+use Rattle.st_memory_pages.proofs.memory_pages.Tried.put.Goals as goal
 
 pub returns-clause-follows : goal.returns-clause-follows
 returns-clause-follows c =
     let old = c.args.self.now.held in
-    let new = c.fresh.new.self in
-    let rooms = fresh-took c.fresh.result (room old) (room new) c.fresh.ensures.room c.fresh.ensures.room_err in
+    let new = c.put.new.self in
+    let rooms = put-took c.put.result (attempt old) c.args.page (room old) (room new) c.put.ensures.room c.put.ensures.room_err in
     let tallied = c.fails.ensures.counted in
     let gets = ap (λ (t : Tally). t.gets) tallied in
     let met = ap (λ (t : Tally). t.met) tallied in
     let more_faults = c.fails.ensures.faults in
     record {
-      array = c.fresh.ensures.array;
-      grows = fresh-grows c.fresh.result (attempt old) (attempt new) c.fresh.ensures.drawn c.fresh.ensures.ok c.fresh.ensures.err;
+      array = c.put.ensures.array;
+      grows = put-grows c.put.result (attempt old) (attempt new) c.args.page c.args.image.now c.put.ensures.ok c.put.ensures.err;
       counts = record { gets = omega (arith, gets); conflicts = omega arith; faults = more_faults };
       met = omega (arith, met);
       in_use = rooms.0;
@@ -24,4 +24,4 @@ returns-clause-follows c =
 
 pub returns-clause-asked : goal.returns-clause-asked
 returns-clause-asked c =
-    fresh-asked c.fresh.result (attempt c.args.self.now.held) (attempt c.fresh.new.self) c.fresh.ensures.drawn c.fresh.ensures.ok c.fresh.ensures.err
+    put-asked c.put.result (attempt c.args.self.now.held) (attempt c.put.new.self) c.args.page c.args.image.now c.put.ensures.ok c.put.ensures.err

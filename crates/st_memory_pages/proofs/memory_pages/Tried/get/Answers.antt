@@ -3,7 +3,7 @@ use Rattle.std.proofs.lemmas.Bool.{true≢false}
 use Rattle.st_memory_pages.specs.declared.tally.Tally.{Tally}
 use Rattle.st_memory_pages.specs.Attempted.{attempt, room}
 use Rattle.st_memory_pages.proofs.Following.{get-grows, get-asked, same-room}
-use Rattle.st_memory_pages.proofs.memory_pages.MemoryPages.try_get.Goals as goal
+use Rattle.st_memory_pages.proofs.memory_pages.Tried.get.Goals as goal
 
 pub returns-clause-follows : goal.returns-clause-follows
 returns-clause-follows c =
