@@ -1,6 +1,7 @@
 -- Rules that are asked without a base, and a call behind them.
 use Rattle.std.proofs.Common.{◌≡◌, inl, inr, ℕ, Bool, true, false, List, [], ◌∷◌, Option, Some, None, Result, Ok, Err, refl, sym, ◌∙◌, ap, subst}
-use Rattle.std.specs.Prelude.{◌++◌, ◌⊎◌, All, length, nat_le, if◌then◌else◌, ⊤}
+use Rattle.std.specs.Prelude.{◌++◌, ◌⊎◌, All, OnOk, is_ok, length, nat_le, if◌then◌else◌, ⊤}
+use Rattle.std.proofs.lemmas.List.{append_assoc}
 use Rattle.std.proofs.lemmas.List.Elements.{All-append}
 use Rattle.st_values.specs.declared.value.EntityId.{EntityId}
 use Rattle.st_values.specs.declared.value.Kind.{Kind}
@@ -11,13 +12,14 @@ use Rattle.st_state.specs.declared.refusal.Refusal.{Refusal}
 use Rattle.st_state.specs.declared.refusal.Refusal.TheVariants.{UnknownName, WrongType, NullNotAllowed, NotUnique, NoSuchEntity, StillNeeded, NotASet, TextTooLong, NumbersSpent, Aborted, NullEntity, TooManyPages, Full}
 use Rattle.st_state.specs.State.{State}
 use Rattle.st_state.specs.Refusals.{first_of}
+use Rattle.st_state.specs.Calls.{Set}
 use Rattle.st_meaning.specs.Rules.{too_long}
 use Rattle.st_plain.specs.declared.fault.BaseFault.{BaseFault}
 use Rattle.st_plain.specs.declared.fault.BaseFault.TheVariants.{Refused, Page, Memory}
 use Rattle.st_plain.specs.Base.{Asked, Refuses, Reaches, behind}
 use Rattle.st_terms.specs.Looks.{AreAmong, AskedAt, Place, Looks, Changes}
 use Rattle.st_terms.proofs.Looking.{at-nothing, at-more, at-looking, at-both, all-map, among-left, reaches-map, looks-change}
-use Rattle.st_changes.specs.Effects.{Tells}
+use Rattle.st_changes.specs.Effects.{Tells, SetsAt}
 
 pub some-none : {A : Type 0} (a : A) → Some a ≡ None → ⊥
 some-none a e = cc
@@ -119,6 +121,26 @@ pub looked-first : {A : Type 0} (stands : Type 0) (first second whole : List Ask
 looked-first stands first second whole got right some others stores places x P Q on same among f (inl p) = inl (same p)
 looked-first stands first second whole got right some others stores places x P Q on same among f (inr g) =
     inr (at-more whole false (some ++ others) stores among (at-both first second whole false some others on f.asked g))
+
+-- the one call that sets a value
+pub set-asked : {C : Type 0} (asks : List Asked → Type 0) (s : State) (e : EntityId) (n : ℕ) (v : Value) (r : Result C BaseFault)
+    → asks (record { state = s; call = Set e n v; answered = is_ok r } ∷ []) → OnOk r (SetsAt asks s (record { entity = e; number = n }))
+set-asked asks s e n v (Ok x) h = record { before = []; value = v; asked = h }
+set-asked asks s e n v (Err fault) h = tt
+
+-- calls that set a value, behind others
+pub sets-behind : (first second whole : List Asked → Type 0) (s : State) (calls : List Asked) → ((f g : List Asked) → first f → second g → whole (f ++ g)) → first calls → (place : Place) → SetsAt second s place → SetsAt whole s place
+sets-behind first second whole s calls on f place g = record {
+  before = calls ++ g.before;
+  value = g.value;
+  asked = subst whole (sym (append_assoc calls g.before (record { state = s; call = Set place.entity place.number g.value; answered = true } ∷ []))) (on calls _ f g.asked);
+}
+
+pub sets-all-behind : {C : Type 0} (first second whole : List Asked → Type 0) (s : State) (calls : List Asked) (places others : List Place) (r : Result C BaseFault)
+    → ((f g : List Asked) → first f → second g → whole (f ++ g)) → places ≡ others → first calls → OnOk r (All (SetsAt second s) places) → OnOk r (All (SetsAt whole s) others)
+sets-all-behind first second whole s calls places others (Ok x) on e f g =
+    subst (All (SetsAt whole s)) e (all-map (SetsAt second s) (SetsAt whole s) places (λ place. sets-behind first second whole s calls on f place) g)
+sets-all-behind first second whole s calls places others (Err fault) on e f g = tt
 
 -- rule 8 is none of those by pages
 pub long_own : (k : Kind) (v : Value) (r : Refusal) → too_long k v ≡ Some r → behind r ≡ None

@@ -1,5 +1,5 @@
 -- How a statement changes an entity, once the values of its terms are known: the rules that need no base, and one call.
-use Rattle.std.specs.Prelude.{◌≡◌, ℕ, List, [], ◌∷◌, ◌++◌, map, Option, Some, None, Result, Ok, Err, ⊤}
+use Rattle.std.specs.Prelude.{◌≡◌, ℕ, true, List, [], ◌∷◌, ◌++◌, map, Option, Some, None, Result, Ok, Err, ⊤}
 use Rattle.st_values.specs.declared.value.EntityId.{EntityId}
 use Rattle.st_values.specs.declared.value.Value.{Value}
 use Rattle.st_values.specs.declared.value.Value.TheVariants.{Entity}
@@ -15,7 +15,8 @@ use Rattle.st_state.specs.Calls.{Call, Get, Set, Add, Take, Turned, Delete, HasA
 use Rattle.st_meaning.specs.Rules.{Filling, null_target, set_fillings, member_fillings, too_long, missing}
 use Rattle.st_plain.specs.declared.fault.BaseFault.{BaseFault}
 use Rattle.st_plain.specs.declared.fault.BaseFault.TheVariants.{Refused, Page, Memory}
-use Rattle.st_plain.specs.Base.{behind}
+use Rattle.st_plain.specs.Base.{Asked, behind}
+use Rattle.st_terms.specs.Looks.{Place}
 
 -- ---- rules that need no base
 
@@ -110,3 +111,11 @@ member_stores schema None = []
 member_stores schema (Some (Add e number v)) = call_stores schema (Turned number v) ++ call_stores schema (Add e number v)
 member_stores schema (Some (Take e number v)) = call_stores schema (Turned number v) ++ call_stores schema (Take e number v)
 member_stores schema (Some call) = call_stores schema call
+
+-- ---- what was asked
+
+-- The last of the calls that were asked sets the value of a place, in this state, and it was answered.
+pub record SetsAt (asks : List Asked → Type 0) (state : State) (place : Place) : Type 0 where
+  pub before : List Asked
+  pub value : Value
+  pub asked : asks (before ++ record { state = state; call = Set place.entity place.number value; answered = true } ∷ [])

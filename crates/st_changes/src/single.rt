@@ -1,5 +1,5 @@
 //! `set`.
-ghost use Rattle.std.specs.Prelude.{◌≡◌, ◌⊎◌, ◌∷◌, [], All, None, false, ⊤};
+ghost use Rattle.std.specs.Prelude.{◌≡◌, ◌⊎◌, ◌∷◌, [], All, None, OnOk, false, ⊤};
 ghost use Rattle.st_lattice.specs.Called.{called, called_copied};
 ghost use Rattle.st_query.specs.declared.statement.Statement.TheVariants.{Set as SetTo};
 ghost use Rattle.st_state.specs.State.{State};
@@ -10,7 +10,7 @@ ghost use Rattle.st_meaning.specs.Rules.{refusal};
 ghost use Rattle.st_plain.specs.Base.{Reaches};
 ghost use Rattle.st_terms.specs.Looks.{AskedAt, Changes, Keeps};
 ghost use Rattle.st_terms.specs.Checked.{present, IsChecked, touched, set_place, places_of};
-ghost use Rattle.st_changes.specs.Effects.{set_rules, set_call, get_call, AdmitsCall, due_by, left_by, stores_of_call};
+ghost use Rattle.st_changes.specs.Effects.{set_rules, set_call, get_call, AdmitsCall, due_by, left_by, stores_of_call, SetsAt};
 
 use crate::rules::can_set;
 use crate::values::operands;
@@ -34,6 +34,8 @@ fn set_at<B: Base>(
         Reaches (B.reached base.new w entity number) result }
     ensures first { (w : B.Witness) (s : State) → B.agrees base.new w → B.stands base.old w s → Admits s (Set entity number value.now) →
         B.reached base.new w entity number ⊎ AskedAt (B.asks base.old base.new w) false (call_stores s.schema (Get entity number)) }
+    ensures sets { (w : B.Witness) (s : State) → B.agrees base.new w → B.stands base.old w s → Admits s (Set entity number value.now) →
+        OnOk result (SetsAt (B.asks base.old base.new w) s (record { entity = entity; number = number })) }
     ensures keeps { Keeps (B.follows base.old base.new) (B.met base.old) (B.met base.new) result }
 {
     base.set(alloc, entity, number, value)
@@ -54,6 +56,8 @@ fn set_value<B: Base>(
     ensures first { (w : B.Witness) (s : State) → B.agrees base.new w → B.stands base.old w s → AdmitsCall s (set_call (called_copied called.entry) target.now value.now) →
         All (λ place. B.reached base.new w place.entity place.number) (set_place (called_copied called.entry) target.now)
         ⊎ AskedAt (B.asks base.old base.new w) false (stores_of_call s.schema (get_call (called_copied called.entry) target.now)) }
+    ensures sets { (w : B.Witness) (s : State) → B.agrees base.new w → B.stands base.old w s → AdmitsCall s (set_call (called_copied called.entry) target.now value.now) →
+        OnOk result (All (SetsAt (B.asks base.old base.new w) s) (set_place (called_copied called.entry) target.now)) }
     ensures keeps { Keeps (B.follows base.old base.new) (B.met base.old) (B.met base.new) result }
 {
     match (called, target) {
@@ -84,6 +88,9 @@ fn set_given<B: Base>(
         (w : B.Witness) (s : State) → B.agrees base.new w → B.stands base.old w s → (due ≡ None → AdmitsCall s (set_call (called_copied called.entry) target.now value.now)) →
         All (λ place. B.reached base.new w place.entity place.number) (set_place (called_copied called.entry) target.now)
         ⊎ AskedAt (B.asks base.old base.new w) false (stores_of_call s.schema (get_call (called_copied called.entry) target.now)) }
+    ensures sets { let due = first_of (set_rules schema.now (called_copied called.entry) target.now value.now) in
+        (w : B.Witness) (s : State) → B.agrees base.new w → B.stands base.old w s → (due ≡ None → AdmitsCall s (set_call (called_copied called.entry) target.now value.now)) →
+        OnOk result (All (SetsAt (B.asks base.old base.new w) s) (set_place (called_copied called.entry) target.now)) }
     ensures keeps { Keeps (B.follows base.old base.new) (B.met base.old) (B.met base.new) result }
 {
     can_set(alloc, schema, called, target, value)?;
@@ -112,6 +119,8 @@ pub fn set<B: Base>(
     ensures first { (w : B.Witness) (s : State) → B.agrees base.new w → B.stands base.old w s → IsChecked (present s variables.now) (SetTo attribute.now target.now value.now) →
         All (λ place. B.reached base.new w place.entity place.number) (set_place (called s.schema attribute.now) (value_now (present s variables.now) target.now))
         ⊎ AskedAt (B.asks base.old base.new w) false (touched s.schema variables.now (SetTo attribute.now target.now value.now)) }
+    ensures sets { (w : B.Witness) (s : State) → B.agrees base.new w → B.stands base.old w s → IsChecked (present s variables.now) (SetTo attribute.now target.now value.now) →
+        OnOk result (All (SetsAt (B.asks base.old base.new w) s) (set_place (called s.schema attribute.now) (value_now (present s variables.now) target.now))) }
     ensures keeps { Keeps (B.follows base.old base.new) (B.met base.old) (B.met base.new) result }
 {
     let given = operands(base, alloc, schema, variables, target, value)?;

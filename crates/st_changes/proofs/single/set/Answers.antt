@@ -3,7 +3,7 @@ use Rattle.std.specs.Prelude.{All}
 use Rattle.st_lattice.specs.Called.{called}
 use Rattle.std.proofs.lemmas.Result.{err_from_is_err_and}
 use Rattle.st_terms.proofs.Looking.{at-more}
-use Rattle.st_changes.proofs.Running.{looked-fail, looked-then, looked-reaches, looked-first, fail-reaches}
+use Rattle.st_changes.proofs.Running.{looked-fail, looked-then, looked-reaches, looked-first, fail-reaches, sets-all-behind}
 use Rattle.st_changes.proofs.Fitted.{target-admits, value-admits}
 use Rattle.st_changes.proofs.Setting.{fitted, can-set, set-refused, set-leaves, set-among, get-among, place-same, set-terms}
 use Rattle.st_changes.proofs.single.set.Goals as goal
@@ -89,3 +89,21 @@ returns-clause-first g c = λ w s agrees stands k.
     (subst (All (λ p. g.B.Base.reached c.set_given.new.base w p.entity p.number)) (place-same s vs name t v k _ same _ is _ _ tv wv))
     (get-among s vs name t v k _ same _ is _ _ tv wv) first
     (c.set_given.ensures.first w s agrees first.answers.1 (can-set s vs name t v k _ same _ is _ _ tv wv))
+
+pub returns-clause-sets : goal.returns-clause-sets
+returns-clause-sets g c = λ w s agrees stands k.
+    let laws = g.met.B.Base in
+    let a = c.args in
+    let vs = a.variables.now in
+    let t = a.target.now in
+    let v = a.value.now in
+    let name = a.attribute.now in
+    let on = c.set_given.ensures.keeps.below in
+    let fit = fitted s vs name t v k in
+    let same = laws.stands_with_schema _ w s stands ∙ sym c.requires in
+    let is = c.called-called.ensures ∙ ap (called a.schema.now) c.as_slice.ensures.value in
+    let first = c.in_ok-given.ensures.looks w s (laws.seen_stays _ _ w on agrees) stands (target-admits s vs name t v fit) (value-admits s vs name t v fit) in
+    let tv = first.answers.0.0 in
+    let wv = first.answers.0.1 in
+    sets-all-behind _ _ _ s first.asked.calls _ _ _ (λ f h. laws.asks_on _ _ _ w f h c.in_ok-given.ensures.keeps.below on) (place-same s vs name t v k _ same _ is _ _ tv wv) first.asked.asked
+    (c.set_given.ensures.sets w s agrees first.answers.1 (can-set s vs name t v k _ same _ is _ _ tv wv))
