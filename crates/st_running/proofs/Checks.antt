@@ -28,6 +28,7 @@ use Rattle.st_plain.specs.Base.{Met, Asked, TellsMet, Refuses, Reaches, behind}
 use Rattle.st_terms.specs.Looks.{AreAmong, AskedAt, Looks, Keeps}
 use Rattle.st_terms.specs.Checked.{present, IsChecked, touched}
 use Rattle.st_terms.proofs.Looking.{among-left, among-chain, among-both, among-itself, at-more, at-looking, at-both, at-nothing}
+use Rattle.st_changes.proofs.Running.{sets-all-behind}
 use Rattle.st_running.specs.Named.{is_abort, text_refusal, dead_refusal, checks}
 use Rattle.st_running.specs.Steps.{may_put, first_place, Steps}
 
@@ -156,6 +157,7 @@ step-refused {A = A} p st stands asks got right r f =
       asked = at-looking asks (may_put st) (touched p.state.schema p.variables st) asked;
       reached = never-reached A p st _ r due;
       first = inr asked;
+      sets = tt;
     }
 
 -- ---- a statement that passes them
@@ -182,6 +184,7 @@ step-checked p st stands behind first second whole got got_then right r on legal
       asked = join (may_put st) (at-looking first (may_put st) starts f.asked) behind_them.asked;
       reached = behind_them.reached;
       first = by behind_them.first;
+      sets = sets-all-behind first second whole p.state f.asked.calls (first_place p st) (first_place p st) r on refl f.asked.asked behind_them.sets;
     }
   where
     by : All (λ place. got_then place.entity place.number) (first_place p st) ⊎ AskedAt second false (touched p.state.schema p.variables st)
@@ -254,4 +257,5 @@ abort-steps p stands asks got right nothing h = record {
   asked = at-nothing asks false (touched p.state.schema p.variables Abort) nothing;
   reached = tt;
   first = inr (at-nothing asks false (touched p.state.schema p.variables Abort) nothing);
+  sets = tt;
 }

@@ -1,7 +1,7 @@
 -- What a statement gives, from what its calls give.
 use Rattle.std.proofs.Common.{◌≡◌, ℕ, Bool, true, false, List, [], ◌∷◌, Option, Some, None, Result, Ok, Err, refl, sym, ◌∙◌, ap, subst}
 use Rattle.std.proofs.Common.{inl, inr, append-nil, true≢false, get_or, length, arith, ◌<◌}
-use Rattle.std.specs.Prelude.{◌++◌, ◌&&◌, ◌+◌, zero, suc, slice_get, IsTrue, not, map, filter, flat_map, All}
+use Rattle.std.specs.Prelude.{◌++◌, ◌&&◌, ◌+◌, zero, suc, slice_get, IsTrue, not, map, filter, flat_map, All, OnOk}
 use Rattle.std.specs.List.{list_all, list_any}
 use Rattle.std.proofs.lemmas.List.Elements.{All-nil, All-append}
 use Rattle.st_values.specs.declared.value.EntityId.{EntityId}
@@ -46,6 +46,7 @@ use Rattle.st_terms.proofs.Looking.{among-itself, among-chain, among-left, among
 use Rattle.st_terms.proofs.Stores.{term-among}
 use Rattle.st_terms.proofs.Admitted.{one, admitted-term}
 use Rattle.st_terms.specs.Routes.{AdmitsTerm, term_stores}
+use Rattle.st_changes.specs.Effects.{SetsAt}
 use Rattle.st_running.specs.Steps.{may_put, first_place, Steps, bound_by, IsOutcome}
 use Rattle.st_running.specs.declared.outcome.Outcome.{Outcome}
 use Rattle.st_running.specs.Ran.{Ran, IsOnward}
@@ -59,15 +60,21 @@ concluded due stands s after right (Err (Refused refusal)) n e f = absurd f
 concluded due stands s after right (Err (Page fault)) n e f = f
 concluded due stands s after right (Err Memory) n e f = tt
 
+-- nothing is said of no places
+sets-none : {A : Type 0} (r : Result A BaseFault) (P : Place → Type 0) (places : List Place) → places ≡ [] → OnOk r (All P places)
+sets-none (Ok x) P places e = subst (All P) (sym e) (All-nil P)
+sets-none (Err fault) P places e = tt
+
 -- a statement that only looks
 pub looked : {A : Type 0} (p : Present) (st : Statement) (stands : State → Type 0) (asks : List Asked → Type 0) (got : EntityId → ℕ → Type 0) (right : A → Type 0) (r : Result A BaseFault)
-    → refusal p st ≡ None → p.state ≡ (does p st).state
+    → refusal p st ≡ None → p.state ≡ (does p st).state → first_place p st ≡ []
     → Looks (stands p.state) asks got right (touched p.state.schema p.variables st) (places_of p st) r → Steps p st stands asks got right r
-looked p st stands asks got right r n e f = record {
+looked p st stands asks got right r n e firsts f = record {
   concludes = concluded (refusal p st) stands p.state (does p st).state right r n e f.answers;
   asked = at-looking asks (may_put st) (touched p.state.schema p.variables st) f.asked;
   reached = f.reached;
   first = inr f.asked;
+  sets = sets-none r (SetsAt asks p.state) (first_place p st) firsts;
 }
 
 -- calls that only look and were not answered, whatever was to come behind
@@ -76,25 +83,25 @@ pub look-failed : {A C : Type 0} (p : Present) (st : Statement) (stands : State 
 look-failed p st stands asks got right right_then stores places (Refused r) among f = absurd f.answers
 look-failed p st stands asks got right right_then stores places (Page fault) among f =
     let asked = at-more asks false stores (touched p.state.schema p.variables st) among f.asked in
-    record { concludes = f.answers; asked = at-looking asks (may_put st) (touched p.state.schema p.variables st) asked; reached = tt; first = inr asked }
+    record { concludes = f.answers; asked = at-looking asks (may_put st) (touched p.state.schema p.variables st) asked; reached = tt; first = inr asked; sets = tt }
 look-failed p st stands asks got right right_then stores places Memory among f =
     let asked = at-more asks false stores (touched p.state.schema p.variables st) among f.asked in
-    record { concludes = tt; asked = at-looking asks (may_put st) (touched p.state.schema p.variables st) asked; reached = tt; first = inr asked }
+    record { concludes = tt; asked = at-looking asks (may_put st) (touched p.state.schema p.variables st) asked; reached = tt; first = inr asked; sets = tt }
 
 -- calls that only look and were answered, and want of memory behind them
 pub look-starved : {A C : Type 0} (p : Present) (st : Statement) (stands : State → Type 0) (asks : List Asked → Type 0) (got : EntityId → ℕ → Type 0) (right : A → Type 0) (right_then : C → Type 0) (stores : List ℕ) (places : List Place) (r : Result A BaseFault)
     → AreAmong stores (touched p.state.schema p.variables st) → Looks (stands p.state) asks got right stores places r → Steps p st stands asks got right_then (Err Memory)
 look-starved p st stands asks got right right_then stores places r among f =
     let asked = at-more asks false stores (touched p.state.schema p.variables st) among f.asked in
-    record { concludes = tt; asked = at-looking asks (may_put st) (touched p.state.schema p.variables st) asked; reached = tt; first = inr asked }
+    record { concludes = tt; asked = at-looking asks (may_put st) (touched p.state.schema p.variables st) asked; reached = tt; first = inr asked; sets = tt }
 
 -- calls that only look and were answered
 pub look-answered : {A C : Type 0} (p : Present) (st : Statement) (stands : State → Type 0) (asks : List Asked → Type 0) (got : EntityId → ℕ → Type 0) (right : A → Type 0) (right_then : C → Type 0) (stores : List ℕ) (x : A) (y : C)
-    → refusal p st ≡ None → p.state ≡ (does p st).state → AreAmong stores (touched p.state.schema p.variables st) → (right x → right_then y)
+    → refusal p st ≡ None → p.state ≡ (does p st).state → first_place p st ≡ [] → AreAmong stores (touched p.state.schema p.variables st) → (right x → right_then y)
     → Looks (stands p.state) asks got right stores (places_of p st) (Ok x) → Steps p st stands asks got right_then (Ok y)
-look-answered p st stands asks got right right_then stores x y n e among so f =
+look-answered p st stands asks got right right_then stores x y n e firsts among so f =
     let asked = at-more asks false stores (touched p.state.schema p.variables st) among f.asked in
-    record { concludes = (n, so f.answers.0, subst stands e f.answers.1); asked = at-looking asks (may_put st) (touched p.state.schema p.variables st) asked; reached = f.reached; first = inr asked }
+    record { concludes = (n, so f.answers.0, subst stands e f.answers.1); asked = at-looking asks (may_put st) (touched p.state.schema p.variables st) asked; reached = f.reached; first = inr asked; sets = subst (All (SetsAt asks p.state)) (sym firsts) (All-nil (SetsAt asks p.state)) }
 
 -- where the checks refuse nothing, and no rule behind them does
 none-of : (text live : Option Refusal) → text ≡ None → live ≡ None → first_of (None ∷ text ∷ live ∷ None ∷ None ∷ None ∷ None ∷ None ∷ None ∷ []) ≡ None
@@ -176,6 +183,7 @@ change-failed {C = C} p st stands asks got right right_then e m places firsts f 
   asked = subst (λ b. AskedAt asks b (touched p.state.schema p.variables st)) (sym m) f.asked;
   reached = subst (λ ps. Reaches {A = C} (All (λ place. got place.entity place.number) ps) (Err e)) (sym places) (reaches-nothing {A = C} (λ place. got place.entity place.number) (Err e));
   first = inl (subst (All (λ place. got place.entity place.number)) (sym firsts) (All-nil (λ place. got place.entity place.number)));
+  sets = tt;
 }
   where
     by : (x : BaseFault) → Concludes (refusal p st) stands p.state (does p st).state right (Err x) → Concludes {A = C} (refusal p st) stands p.state (does p st).state right_then (Err x)
@@ -191,6 +199,7 @@ change-answered p st stands asks got right right_then x y m places firsts so f =
   asked = subst (λ b. AskedAt asks b (touched p.state.schema p.variables st)) (sym m) f.asked;
   reached = subst (All (λ place. got place.entity place.number)) (sym places) (All-nil (λ place. got place.entity place.number));
   first = inl (subst (All (λ place. got place.entity place.number)) (sym firsts) (All-nil (λ place. got place.entity place.number)));
+  sets = subst (All (SetsAt asks p.state)) (sym firsts) (All-nil (SetsAt asks p.state));
 }
 
 -- ---- find
@@ -270,14 +279,14 @@ module _ (p : Present) (query : Query) (stands : Type 0) (behind : State → Typ
   pub query-answered : IsChecked p (ForEach query) → (lines : List (List ℕ)) (o : Outcome) → o ≡ record { lines = lines; bound = None } → (stands → AreOf p.state query slice → Looks (behind p.state) second got_then (λ ls. ls ≡ query_tails p query slice) all [] (Ok lines))
       → Steps p (ForEach query) behind whole got_then (IsOutcome p (ForEach query)) (Ok o)
   query-answered checked lines o is f =
-      look-answered p (ForEach query) behind whole got_then (λ ls. ls ≡ query_tails p query slice) (IsOutcome p (ForEach query)) all lines o (query-free p query checked) refl (among-itself all)
+      look-answered p (ForEach query) behind whole got_then (λ ls. ls ≡ query_tails p query slice) (IsOutcome p (ForEach query)) all lines o (query-free p query checked) refl refl (among-itself all)
       (λ e. subst (IsOutcome p (ForEach query)) (sym is) (e ∙ ap (query_tails p query) (same ∙ found.answers.0), refl)) (both-looked (λ ls. ls ≡ query_tails p query slice) (Ok lines) (f found.answers.1 of))
 
 -- ---- what is done behind a statement
 
 pub step-failed : {A C : Type 0} (p : Present) (st : Statement) (stands : State → Type 0) (asks : List Asked → Type 0) (got : EntityId → ℕ → Type 0) (right : A → Type 0) (right_then : C → Type 0) (e : BaseFault)
     → Steps p st stands asks got right (Err e) → Steps p st stands asks got right_then (Err e)
-step-failed {A = A} {C = C} p st stands asks got right right_then e f = record { concludes = by e f.concludes; asked = f.asked; reached = reaches e f.reached; first = f.first }
+step-failed {A = A} {C = C} p st stands asks got right right_then e f = record { concludes = by e f.concludes; asked = f.asked; reached = reaches e f.reached; first = f.first; sets = tt }
   where
     by : (x : BaseFault) → Concludes (refusal p st) stands p.state (does p st).state right (Err x) → Concludes {A = C} (refusal p st) stands p.state (does p st).state right_then (Err x)
     by (Refused r) h = h
@@ -303,11 +312,11 @@ step-failed {A = A} {C = C} p st stands asks got right right_then e f = record {
 
 pub step-starved : {A C : Type 0} (p : Present) (st : Statement) (stands : State → Type 0) (asks : List Asked → Type 0) (got : EntityId → ℕ → Type 0) (right : A → Type 0) (right_then : C → Type 0) (r : Result A BaseFault)
     → Steps p st stands asks got right r → Steps p st stands asks got right_then (Err Memory)
-step-starved p st stands asks got right right_then r f = record { concludes = tt; asked = f.asked; reached = tt; first = f.first }
+step-starved p st stands asks got right right_then r f = record { concludes = tt; asked = f.asked; reached = tt; first = f.first; sets = tt }
 
 pub step-answered : {A C : Type 0} (p : Present) (st : Statement) (stands : State → Type 0) (asks : List Asked → Type 0) (got : EntityId → ℕ → Type 0) (right : A → Type 0) (right_then : C → Type 0) (x : A) (y : C)
     → (right x → right_then y) → Steps p st stands asks got right (Ok x) → Steps p st stands asks got right_then (Ok y)
-step-answered p st stands asks got right right_then x y so f = record { concludes = (f.concludes.0, so f.concludes.1, f.concludes.2); asked = f.asked; reached = f.reached; first = f.first }
+step-answered p st stands asks got right right_then x y so f = record { concludes = (f.concludes.0, so f.concludes.1, f.concludes.2); asked = f.asked; reached = f.reached; first = f.first; sets = f.sets }
 
 -- a statement that is found by its place
 pub is-next : (sts : List Statement) (i : ℕ) (x d : Statement) → x ≡ get_or sts i d → i < length sts → (y : Statement) → slice_get sts i ≡ Some y → x ≡ y

@@ -1,5 +1,5 @@
 -- What a statement gives that is run over a base.
-use Rattle.std.specs.Prelude.{◌≡◌, ◌⊎◌, ◌==◌, ◌||◌, ℕ, Bool, true, false, not, List, [], Option, Some, None, Result, All}
+use Rattle.std.specs.Prelude.{◌≡◌, ◌⊎◌, ◌==◌, ◌||◌, ℕ, Bool, true, false, not, List, [], Option, Some, None, Result, All, OnOk}
 use Rattle.st_values.specs.declared.value.EntityId.{EntityId}
 use Rattle.std.specs.List.{list_any}
 use Rattle.st_lattice.specs.Outline.{Outline}
@@ -19,6 +19,7 @@ use Rattle.st_plain.specs.declared.fault.BaseFault.{BaseFault}
 use Rattle.st_plain.specs.Base.{Asked, Reaches}
 use Rattle.st_terms.specs.Looks.{AskedAt, Place, Concludes}
 use Rattle.st_terms.specs.Checked.{touched, set_place, places_of}
+use Rattle.st_changes.specs.Effects.{SetsAt}
 
 -- whether a statement may change what is stored; the others only look
 abbrev pub may_put : Statement → Bool
@@ -37,13 +38,15 @@ first_place p _ = []
 
 -- A statement that is run, in one state: `stands` says of a state that it is stood for behind it, `asks` which calls were asked,
 -- `got` whose page was reached. It gives what the definitions say, or is refused by the rule that refuses it; it asks for its own
--- stores alone, and puts nothing where it only looks; an answer tells that the places were reached that it reads or sets; and before
--- a place is reached that is set, nothing is put.
+-- stores alone, and puts nothing where it only looks; an answer tells that the places were reached that it reads or sets, and that
+-- each place that it sets was set by the last call, also where it has the value already; and before a place is reached that is set,
+-- nothing is put.
 pub record Steps {A : Type 0} (p : Present) (statement : Statement) (stands : State → Type 0) (asks : List Asked → Type 0) (got : EntityId → ℕ → Type 0) (right : A → Type 0) (result : Result A BaseFault) : Type 0 where
   pub concludes : Concludes (refusal p statement) stands p.state (does p statement).state right result
   pub asked : AskedAt asks (may_put statement) (touched p.state.schema p.variables statement)
   pub reached : Reaches (All (λ place. got place.entity place.number) (places_of p statement)) result
   pub first : All (λ place. got place.entity place.number) (first_place p statement) ⊎ AskedAt asks false (touched p.state.schema p.variables statement)
+  pub sets : OnOk result (All (SetsAt asks p.state) (first_place p statement))
 
 -- the variables where a statement's own one is bound to a value, if it binds one
 abbrev pub bound_by : Statement → Option Value → List Variable → List Variable

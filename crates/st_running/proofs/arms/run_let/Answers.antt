@@ -17,5 +17,5 @@ returns-in_err-value-clause-steps g c = λ w s agrees stands var checked.
 pub returns-clause-steps : goal.returns-clause-steps
 returns-clause-steps g c = λ w s agrees stands var checked.
     let p = present s c.args.variables.now in
-    look-answered p (Let var c.args.value.now) _ _ _ _ _ _ _ c.bound.result (let-free p var c.args.value.now checked) refl (let-among p var c.args.value.now checked)
+    look-answered p (Let var c.args.value.now) _ _ _ _ _ _ _ c.bound.result (let-free p var c.args.value.now checked) refl refl (let-among p var c.args.value.now checked)
     (let-outcome p var c.args.value.now c.bound.result c.in_ok-value.value c.bound.ensures) (no-places _ _ _ _ _ _ _ (c.in_ok-value.ensures.looks w s agrees stands (let-admitted p var c.args.value.now checked)))

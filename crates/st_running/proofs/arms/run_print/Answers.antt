@@ -24,5 +24,5 @@ returns-in_err-printed-clause-steps g c = λ w s agrees stands checked.
 pub returns-clause-steps : goal.returns-clause-steps
 returns-clause-steps g c = λ w s agrees stands checked.
     let p = present s c.args.variables.now in
-    look-answered p (Print c.args.terms.now) _ _ _ _ _ _ _ _ (print-free p c.args.terms.now checked) refl (print-among p c.args.terms.now checked)
+    look-answered p (Print c.args.terms.now) _ _ _ _ _ _ _ _ (print-free p c.args.terms.now checked) refl refl (print-among p c.args.terms.now checked)
     (print-outcome p c.args.terms.now _ c.in_ok-line.line c.in_ok-printed.ensures) (c.in_ok-line.ensures.looks w s agrees stands (print-admitted p c.args.terms.now checked))
