@@ -18,7 +18,7 @@ ghost use Rattle.st_catalog.specs.Stores.{AreOf};
 ghost use Rattle.st_database.specs.Touches.{WithStore};
 ghost use Rattle.st_lookups.specs.Looks.{Peeks, Finds, OfState, AreCellsIn, IsExtent, IsSoundRow, are_named, cells_of, is_cell, value_among};
 
-use crate::walk::{MOST_BYTES, Visit, walk};
+use crate::walks::{MOST_BYTES, Visit, walk};
 use st_database::{find_row, laws_of_places};
 use st_index::is_of_kind;
 use st_keys::laws_of_keys;
@@ -58,7 +58,7 @@ pub fn is_cell(attribute: &Attribute) -> bool
 }
 
 /// A serial as the key of a row.
-pub(crate) fn serial_key(serial: u32) -> [u8; 4]
+pub fn serial_key(serial: u32) -> [u8; 4]
     ensures { result ≡ to_be_bytes w32 serial }
 {
     serial.to_be_bytes()
@@ -274,7 +274,7 @@ fn misnamed(schema: &Schema, ty: u16, cells: &[Value]) -> Option<u16>
 }
 
 /// The serial and the cells in a row of a type.
-pub(crate) fn cells_in(
+pub fn cells_in(
     alloc: Global,
     schema: &Schema,
     ty: u16,

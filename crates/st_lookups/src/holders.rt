@@ -18,7 +18,7 @@ ghost use Rattle.st_lookups.specs.Looks.{Peeks, Finds, OfState, is_cell, value_a
 
 use crate::extent::{cell_index, cells_in, extent_of, serial_key};
 use crate::sets::{member_in, set_place};
-use crate::walk::{Visit, walk};
+use crate::walks::{Visit, walk};
 use st_database::laws_of_places;
 use st_keys::laws_of_keys;
 use st_lattice::{Attribute, Schema, StoreKind, store};

@@ -6,8 +6,11 @@ mod extent;
 mod having;
 mod holders;
 mod sets;
-mod walk;
+mod walks;
 
-pub use extent::{cell_index, cells_at, extent_of, is_cell, is_live, list, value_of};
+pub use extent::{
+    cell_index, cells_at, cells_in, extent_of, is_cell, is_live, list, serial_key, value_of,
+};
 pub use having::{found_holders, turned};
 pub use sets::members;
+pub use walks::{MOST_BYTES, Visit, walk};

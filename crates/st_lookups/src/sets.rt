@@ -17,7 +17,7 @@ ghost use Rattle.st_index.specs.Change.{IsTurned};
 ghost use Rattle.st_standing.specs.Standing.{pair_bytes};
 ghost use Rattle.st_lookups.specs.Looks.{Peeks, Finds, OfState, IsMember};
 
-use crate::walk::{Visit, walk};
+use crate::walks::{Visit, walk};
 use st_index::is_of_kind;
 use st_keys::laws_of_keys;
 use st_lattice::{Attribute, Schema, StoreKind, store};

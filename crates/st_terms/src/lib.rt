@@ -4,5 +4,5 @@
 mod read;
 mod route;
 
-pub use read::{evaluate, term_meaning, term_value};
+pub use read::{evaluate, term_meaning, term_value, walk};
 pub use route::{Origin, Reading, Route, route_of};

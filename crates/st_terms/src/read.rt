@@ -115,8 +115,8 @@ fn read<B: Base>(
     }
 }
 
-/// What readings give, one after another, of what is there first.
-fn walk<B: Base>(
+/// What readings give, one after another, of what is there first, over a base with that schema. Each is one call of the base at most.
+pub fn walk<B: Base>(
     base: &mut B,
     alloc: Global,
     readings: &[Reading],

@@ -19,8 +19,8 @@ use Rattle.st_database.proofs.Frames.{StoreLaws}
 use Rattle.st_lookups.specs.Looks.{Finds, taken_from}
 use Rattle.st_lookups.proofs.Found.{finds-looked, if-ok}
 use Rattle.st_lookups.proofs.Walked.{TookRows}
-use Rattle.st_lookups.proofs.walk.walk.Given as given
-use Rattle.st_lookups.proofs.walk.walk.Goals as goal
+use Rattle.st_lookups.proofs.walks.walk.Given as given
+use Rattle.st_lookups.proofs.walks.walk.Goals as goal
 
 stores : (g : given.Over) → StoreLaws g.S.Store.holds g.S.Store.reach
 stores g = record {

@@ -3,7 +3,7 @@ use Rattle.st_pages.specs.Calls.{no_page}
 use Rattle.st_pages.specs.Reading.{ForEach}
 use Rattle.st_store.specs.Stores.{Fits}
 use Rattle.st_lookups.proofs.Walked.{Walked, TookRows}
-use Rattle.st_lookups.proofs.walk.take_all.Given as goal
+use Rattle.st_lookups.proofs.walks.take_all.Given as goal
 
 -- which rows were taken, and which are still ahead
 abbrev pub invariant-loop-fault : goal.invariant-loop-fault

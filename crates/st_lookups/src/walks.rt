@@ -17,10 +17,10 @@ use st_store::{Cursor, Store};
 use std::alloc::Global;
 
 /// The most bytes that a row has.
-pub(crate) const MOST_BYTES: usize = 1000;
+pub const MOST_BYTES: usize = 1000;
 
 /// What takes rows, one after the other.
-pub(crate) trait Visit {
+pub trait Visit {
     // It takes rows of a width.
     ghost wide: { Self → ℕ → Type 0 };
 
@@ -163,7 +163,7 @@ fn take_all<S: Store, P: Pages, V: Visit>(
 }
 
 /// Goes over the rows of a store, from a key on, as long as they are wanted.
-pub(crate) fn walk<S: Store, P: Pages, V: Visit>(
+pub fn walk<S: Store, P: Pages, V: Visit>(
     alloc: Global,
     place: Place,
     pages: &mut P,

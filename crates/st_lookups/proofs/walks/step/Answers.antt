@@ -6,7 +6,7 @@ use Rattle.st_store.specs.Stores.{Advanced}
 use Rattle.st_index.proofs.Changes.{damage-weaken}
 use Rattle.st_index.proofs.Looked.{err-weaken, within-page}
 use Rattle.st_lookups.proofs.Walked.{first-has, want-of-memory}
-use Rattle.st_lookups.proofs.walk.step.Goals as goal
+use Rattle.st_lookups.proofs.walks.step.Goals as goal
 
 pub take_row-requires-clause-passed : goal.take_row-requires-clause-passed
 take_row-requires-clause-passed g c =

@@ -8,7 +8,7 @@ use Rattle.st_index.proofs.Called.{earlier}
 use Rattle.st_index.proofs.Changes.{damage-weaken}
 use Rattle.st_lookups.specs.Looks.{Stepped}
 use Rattle.st_lookups.proofs.Walked.{TookRows, ahead-have, walk-done, walk-next}
-use Rattle.st_lookups.proofs.walk.take_all.Goals as goal
+use Rattle.st_lookups.proofs.walks.take_all.Goals as goal
 
 pub returns-in-Ok-false-clause-asked : goal.returns-in-Ok-false-clause-asked
 returns-in-Ok-false-clause-asked g c =
