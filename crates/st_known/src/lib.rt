@@ -1,0 +1,6 @@
+//! What is at hand of an entity: values of its attributes that were read with it.
+#![tactic(auto)]
+
+mod known;
+
+pub use known::{Known, KnownValue, known_value};
