@@ -1,6 +1,8 @@
 pub mod Comparing
 pub mod Ordering
 pub mod Steps
+pub mod Known
+pub mod Found
 pub mod Arranging
 pub mod Ranked
 pub mod Admission

@@ -1,9 +1,9 @@
 -- Calls that only look, one after another at the same stores, as a loop makes them.
 use Rattle.std.proofs.Common.{◌≡◌, ℕ, ◌<◌, ◌+◌, Bool, true, false, List, [], ◌∷◌, Result, Ok, Err, refl, sym, ◌∙◌, ap, subst, length, get_or, take, map, arith, zero, suc}
-use Rattle.std.specs.Prelude.{◌++◌, All, flat_map, filter, if◌then◌else◌}
+use Rattle.std.specs.Prelude.{◌++◌, All, flat_map}
 use Rattle.std.specs.List.{list_all}
-use Rattle.std.proofs.lemmas.List.{take_more, map-append, get_or_default}
-use Rattle.std.proofs.lemmas.List.Elements.{All-nil, filter_more}
+use Rattle.std.proofs.lemmas.List.{take_more, map-append}
+use Rattle.std.proofs.lemmas.List.Elements.{All-nil}
 use Rattle.std.proofs.lemmas.List.Folds.{list_all_at, list_all-append}
 use Rattle.st_values.proofs.Tests.{both}
 use Rattle.st_values.specs.declared.value.EntityId.{EntityId}
@@ -18,7 +18,7 @@ use Rattle.st_terms.proofs.Looking.{among-itself, among-chain, among-left, among
 -- ---- what calls give
 
 -- the fault that a call passes on
-pub at-error : {D : Type 0} (P : Result D BaseFault → Type 0) (r : Result D BaseFault) (e : BaseFault) → (y : BaseFault) × (r ≡ Err y) × (y ≡ e) → P (Err e) → P r
+at-error : {D : Type 0} (P : Result D BaseFault → Type 0) (r : Result D BaseFault) (e : BaseFault) → (y : BaseFault) × (r ≡ Err y) × (y ≡ e) → P (Err e) → P r
 at-error P r e told p = subst P (sym (told.1 ∙ ap (λ (y : BaseFault). Err y) told.2)) p
 
 module _ (stands behind : Type 0) (first second whole : List Asked → Type 0) (got got_then : EntityId → ℕ → Type 0) (some stores : List ℕ)
@@ -56,6 +56,21 @@ module _ (stands behind : Type 0) (first second whole : List Asked → Type 0) (
   looks-spent right right_then right_all x y r told f g =
       at-error (Looks behind whole got_then right_all stores []) r Memory told (record { answers = tt; asked = asked f.asked g.asked; reached = tt })
 
+-- a call that was not answered, and nothing behind it
+pub looks-handed : {C D : Type 0} (stands : Type 0) (asks : List Asked → Type 0) (got : EntityId → ℕ → Type 0) (stores : List ℕ) (right : C → Type 0) (right_all : D → Type 0) (e : BaseFault) (r : Result D BaseFault) → (y : BaseFault) × (r ≡ Err y) × (y ≡ e)
+    → Looks {A = C} stands asks got right stores [] (Err e) → Looks stands asks got right_all stores [] r
+looks-handed {C = C} {D = D} stands asks got stores right right_all e r told f = at-error (Looks stands asks got right_all stores []) r e told (by e f)
+  where
+    by : (e : BaseFault) → Looks {A = C} stands asks got right stores [] (Err e) → Looks {A = D} stands asks got right_all stores [] (Err e)
+    by (Refused refusal) f = absurd f.answers
+    by (Page fault) f = record { answers = f.answers; asked = f.asked; reached = tt }
+    by Memory f = record { answers = tt; asked = f.asked; reached = tt }
+
+-- a call that was answered, and then no memory
+pub looks-lost : {C D : Type 0} (stands : Type 0) (asks : List Asked → Type 0) (got : EntityId → ℕ → Type 0) (stores : List ℕ) (right : C → Type 0) (right_all : D → Type 0) (x : C) (r : Result D BaseFault) → (z : BaseFault) × (r ≡ Err z) × (z ≡ Memory)
+    → Looks stands asks got right stores [] (Ok x) → Looks stands asks got right_all stores [] r
+looks-lost stands asks got stores right right_all x r told f = at-error (Looks stands asks got right_all stores []) r Memory told (record { answers = tt; asked = f.asked; reached = tt })
+
 -- ---- what calls keep
 
 pub keeps-step : {A C D : Type 0} (first second whole : Type 0) (a b c : Met) (x : A) (y : C) (z : D)
@@ -64,16 +79,10 @@ keeps-step first second whole a b c x y z on f g =
     let both = keeps-then first second whole a b c x (Ok y) on f g in
     record { below = both.below; met = record { never_falls = both.met.never_falls; is_last = both.met.is_last }; own = tt }
 
-pub keeps-spent : {A C D : Type 0} (first second whole : Type 0) (a b c : Met) (x : A) (y : C) (r : Result D BaseFault) → (z : BaseFault) × (r ≡ Err z) × (z ≡ Memory)
-    → (first → second → whole) → Keeps first a b (Ok x) → Keeps second b c (Ok y) → Keeps whole a c r
-keeps-spent first second whole a b c x y r told on f g =
-    let both = keeps-then first second whole a b c x (Ok y) on f g in
-    at-error (Keeps whole a c) r Memory told (record { below = both.below; met = record { never_falls = both.met.never_falls; is_last = both.met.is_last }; own = tt })
-
 -- ---- one of several
 
 -- what an element has, all have together
-pub among-at : {X : Type 0} (f : X → List ℕ) (xs : List X) (i : ℕ) (d : X) → i < length xs → AreAmong (f (get_or xs i d)) (flat_map f xs)
+among-at : {X : Type 0} (f : X → List ℕ) (xs : List X) (i : ℕ) (d : X) → i < length xs → AreAmong (f (get_or xs i d)) (flat_map f xs)
 among-at f [] i d h = absurd (omega (arith, h))
 among-at f (x ∷ xs) zero d h = among-left (f x) (flat_map f xs)
 among-at f (x ∷ xs) (suc i) d h = among-chain (f (get_or xs i d)) (flat_map f xs) (f x ++ flat_map f xs) (among-at f xs i d (omega (arith, h))) (among-right (f x) (flat_map f xs))
@@ -89,13 +98,6 @@ all-item-of P old new xs i x same h e all = subst (λ o. P o x) (sym same) (item
 pub all-of : {X : Type 0} (P : Outline → X → Type 0) (old new : Outline) (xs : List X) → new ≡ old → All (P old) xs → All (P new) xs
 all-of P old new xs same all = subst (λ o. All (P o) xs) (sym same) all
 
--- the entity that a loop is at
-abbrev pub entity_at : List EntityId → ℕ → EntityId
-entity_at xs i = get_or xs i (record { ty = 0; serial = 0 })
-
-pub entity_here : (xs : List EntityId) (i : ℕ) → i < length xs → entity_at xs i ≡ get_or xs i (entity_at xs i)
-entity_here xs i h = get_or_default xs i (record { ty = 0; serial = 0 }) (entity_at xs i) h
-
 -- ---- one element more
 
 pub all-but-here : {X : Type 0} (p : X → Bool) (xs : List X) (i : ℕ) (x : X) (b : Bool) → i < length xs → x ≡ get_or xs i x → b ≡ p x → b ≡ false → false ≡ list_all p xs
@@ -106,12 +108,6 @@ pub all-so-far : {X : Type 0} (p : X → Bool) (xs : List X) (i : ℕ) (x : X) (
 all-so-far p xs i x b h e true_here sofar is =
     sym (ap (list_all p) (take_more xs i x h) ∙ list_all-append p (take i xs) (get_or xs i x ∷ [])
     ∙ both (list_all p (take i xs)) (list_all p (get_or xs i x ∷ [])) (sym sofar) (both (p (get_or xs i x)) true (sym (ap p e) ∙ sym is ∙ true_here) refl))
-
-pub filtered-more : {X : Type 0} (p : X → Bool) (xs : List X) (i : ℕ) (x : X) (kept : Bool) (found new : List X) → i < length xs → x ≡ get_or xs i x → new ≡ found ++ (if kept then x ∷ [] else [])
-    → found ≡ filter p (take i xs) → kept ≡ p x → new ≡ filter p (take (i + 1) xs)
-filtered-more p xs i x kept found new h e is sofar k =
-    is ∙ ap (λ fs. fs ++ (if kept then x ∷ [] else [])) sofar ∙ ap (λ (b : Bool). filter p (take i xs) ++ (if b then x ∷ [] else [])) k
-    ∙ ap (λ y. filter p (take i xs) ++ (if p y then y ∷ [] else [])) e ∙ sym (filter_more p xs i x h)
 
 pub mapped-more : {X Y : Type 0} (f : X → Y) (xs : List X) (i : ℕ) (x : X) (y : Y) (ys new : List Y) → i < length xs → x ≡ get_or xs i x → new ≡ ys ++ y ∷ []
     → ys ≡ map f (take i xs) → y ≡ f x → new ≡ map f (take (i + 1) xs)

@@ -1,5 +1,5 @@
 -- Queries that were looked up: what is asked of each entity, and what it takes to ask it.
-use Rattle.std.specs.Prelude.{ℕ, ◌<◌, Bool, not, List, [], ◌++◌, map, flat_map, filter, Option, Some, None, All}
+use Rattle.std.specs.Prelude.{ℕ, ◌<◌, Bool, not, List, [], ◌∷◌, ◌++◌, map, flat_map, filter, Option, Some, None, All, option_and_then}
 use Rattle.std.specs.List.{list_all}
 use Rattle.std.specs.Option.{ForSome}
 use Rattle.std.specs.Prelude.{length}
@@ -19,8 +19,13 @@ use Rattle.st_state.specs.State.{State}
 use Rattle.st_meaning.specs.declared.meaning.Meaning.{Meaning}
 use Rattle.st_meaning.specs.Terms.{single}
 use Rattle.st_meaning.specs.Selection.{compares, is_null, is_member, entities_in}
+use Rattle.st_known.specs.declared.known.Known.{Known}
+use Rattle.st_known.specs.Known.{known_value}
 use Rattle.st_terms.specs.declared.route.Route.{Route}
-use Rattle.st_terms.specs.declared.route.Origin.TheVariants.{Fixed}
+use Rattle.st_terms.specs.declared.route.Origin.{Origin}
+use Rattle.st_terms.specs.declared.route.Origin.TheVariants.{Fixed, Subject}
+use Rattle.st_terms.specs.declared.route.Reading.{Reading}
+use Rattle.st_terms.specs.declared.route.Reading.TheVariants.{Value as One}
 use Rattle.st_terms.specs.Routes.{route_of, route_meaning, route_stores, AdmitsRoute, IsReadingOf}
 use Rattle.st_select.specs.declared.search.Ask.{Ask}
 use Rattle.st_select.specs.declared.search.Ask.TheVariants as ask
@@ -77,6 +82,22 @@ pub record IsSearchOf (schema : Outline) (search : Search) : Type 0 where
   pub ty : IsTypeOf schema search.ty
   pub tests : All (IsTestOf schema) search.tests
   pub keys : All (IsOrderKeyOf schema) search.keys
+
+-- ---- at hand
+
+-- the attribute whose value is read first
+abbrev pub first_read : List Reading → Option ℕ
+first_read (One number ∷ readings) = Some number
+first_read _ = None
+
+-- the attribute that a term reads first of the entity that is looked at, if it begins with that entity
+abbrev pub first_of_subject : Origin → List Reading → Option ℕ
+first_of_subject Subject readings = first_read readings
+first_of_subject (Fixed v) readings = None
+
+-- the value that the first feature of a term has, where it is known of the entity that is looked at
+abbrev pub first_value : Route → Known → Option Value
+first_value route known = option_and_then (λ number. known_value known number) (first_of_subject route.origin route.readings)
 
 -- ---- asked
 

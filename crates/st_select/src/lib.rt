@@ -4,8 +4,9 @@
 mod compare;
 mod engine;
 mod matching;
+mod meaning;
 mod ranking;
 mod search;
 
-pub use engine::{Engine, filtered};
+pub use engine::{Engine, filtered, filtered_known};
 pub use search::{Ask, OrderKey, Search, Test, prepare};
