@@ -3,3 +3,4 @@ pub mod Asking
 pub mod Giving
 pub mod Calling
 pub mod OfForm
+pub mod Selecting

@@ -24,5 +24,5 @@ returns-in_err-search-clause-looks g c = λ w s agrees stands checked.
 
 pub returns-clause-looks : goal.returns-clause-looks
 returns-clause-looks g c = λ w s agrees stands checked.
-    c.filtered.ensures.looks w s agrees stands c.args.variables.now c.args.query.now
+    c.searched.ensures.looks w s agrees stands c.args.variables.now c.args.query.now
     (c.in_ok-search.ensures.value ∙ ap (λ (o : Outline). search_of o c.args.variables.now c.args.query.now) (ap (λ (x : Parts g.row.P.Denot). x.schema) c.self.view_is ∙ sym stands.of_schema)) checked
