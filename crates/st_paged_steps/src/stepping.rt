@@ -1,11 +1,14 @@
 //! A statement that is run over a database in pages.
 ghost use Rattle.std.specs.Prelude.{◌≡◌, ◌<◌, length, slice_get, Some, IsTrue};
+ghost use Rattle.std.specs.Option.{ForSome};
 ghost use Rattle.st_pages.specs.Attempt.{Agrees, Array};
+ghost use Rattle.st_pages.specs.Calls.{IsStopped};
 ghost use Rattle.st_query.specs.declared.statement.Statement.{Statement};
 ghost use Rattle.st_query.specs.Written.{is_written};
 ghost use Rattle.st_state.specs.State.{State};
 ghost use Rattle.st_state.specs.Legal.{IsLegal};
 ghost use Rattle.st_edits.specs.Edits.{met_of};
+ghost use Rattle.st_plain.specs.Base.{fault_behind};
 ghost use Rattle.st_terms.specs.Looks.{Keeps};
 ghost use Rattle.st_terms.specs.Checked.{present};
 ghost use Rattle.st_running.specs.Ran.{IsOnward};
@@ -38,8 +41,9 @@ pub fn step<P: Pages>(
     requires schema { schema.now ≡ base.old.schema }
     ensures steps { (array : Array) (s : State) → Agrees (P.attempt base.new.pages) array → StandsIn P.attempt ⟦<Form as Store>⟧.holds base.old array s → IsLegal s →
         (statement : Statement) → slice_get running.old.statements running.old.ran ≡ Some statement → IsTrue (is_written statement) →
-        StepsInPages P.attempt P.asked ⟦<Form as Store>⟧.holds base.old base.new array (present s running.old.variables) statement
+        StepsInPages P.attempt P.asked P.follows ⟦<Form as Store>⟧.holds ⟦<Form as Store>⟧.spot P.room base.old base.new array (present s running.old.variables) statement
         (IsOnward (present s running.old.variables) statement running.old running.new) result }
+    ensures stopped { ForSome (fault_behind result) (IsStopped (P.attempt base.new.pages) (P.room base.new.pages)) }
     ensures statements { running.new.statements ≡ running.old.statements }
     ensures keeps { Keeps (Continues P.attempt P.follows base.old base.new) (met_of (P.met base.old.pages)) (met_of (P.met base.new.pages)) result }
 {
